@@ -1,0 +1,12 @@
+pub mod Bytes
+pub mod Runs
+pub mod Readings
+pub mod Labels
+pub mod Steps
+pub mod Plain
+pub mod LowerCase
+pub mod Cuts
+pub mod Rules
+pub mod Names
+pub mod Pointers
+pub mod OneAnswer

@@ -1,0 +1,36 @@
+-- Laws of names in a message.
+use Rattle.std.specs.Prelude.{◌≡◌, ℕ, ◌+◌, ◌-◌, ◌*◌, ◌<◌, ◌≤◌, List, ◌∷◌, ◌++◌, [], length}
+use Rattle.std.specs.List.{AllByRecursion}
+use Rattle.cd_name.specs.Rules.{ReadsName}
+use Rattle.cd_name.specs.Names.{IsName, NameAt}
+
+-- a name that is spelled without pointers is read as itself, whatever stands before and behind it
+abbrev pub PlainNamesAreRead : Type 0
+PlainNamesAreRead = (front name behind : List ℕ) → IsName name →
+    NameAt (front ++ name ++ behind) (length front) name (length front + length name)
+
+-- what is read is a name, and its own bytes are within the payload
+abbrev pub NamesAreNames : Type 0
+NamesAreNames = (p : List ℕ) (at : ℕ) (name : List ℕ) (next : ℕ) → NameAt p at name next → IsName name × (at < next) × (next ≤ length p)
+
+-- the bytes of a label
+abbrev pub IsLabel : List ℕ → Type 0
+IsLabel l = (0 < length l) × (length l ≤ 63)
+
+-- labels, each behind its length byte
+abbrev pub label_bytes : List (List ℕ) → List ℕ
+label_bytes [] = []
+label_bytes (l ∷ ls) = (length l ∷ l) ++ label_bytes ls
+
+-- labels are read before what is read behind them
+abbrev pub LabelsAreRead : Type 0
+LabelsAreRead = (labels : List (List ℕ)) (front more name : List ℕ) (start next : ℕ) → AllByRecursion IsLabel labels →
+    ReadsName (front ++ (label_bytes labels ++ more)) start (length front + length (label_bytes labels)) name next →
+    ReadsName (front ++ (label_bytes labels ++ more)) start (length front) (label_bytes labels ++ name) next
+
+-- labels and behind them a pointer to an offset before them are read as the labels and the name at that offset, if both have at most 255 bytes
+abbrev pub PointersAreFollowed : Type 0
+PointersAreFollowed = (labels : List (List ℕ)) (front more name : List ℕ) (high low target next : ℕ) → AllByRecursion IsLabel labels →
+    192 ≤ high → target ≡ (high - 192) * 256 + low → target < length front →
+    NameAt (front ++ (label_bytes labels ++ high ∷ low ∷ more)) target name next → length (label_bytes labels) + length name ≤ 255 →
+    NameAt (front ++ (label_bytes labels ++ high ∷ low ∷ more)) (length front) (label_bytes labels ++ name) (length front + length (label_bytes labels) + 2)

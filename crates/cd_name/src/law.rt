@@ -1,0 +1,28 @@
+//! Laws over the definitions, each the contract of a function that does nothing.
+
+ghost use Rattle.cd_name.specs.NameLaws.{PlainNamesAreRead, NamesAreNames, LabelsAreRead, PointersAreFollowed};
+ghost use Rattle.cd_name.specs.Rules.{ReadByRules, BrokenByRules, RulesGiveOne};
+
+/// A name that is spelled without pointers is read as itself, and what is read is a name (RFC 1035 3.1).
+pub fn plain_names_are_read()
+    ensures plain { PlainNamesAreRead }
+    ensures names { NamesAreNames }
+{}
+
+/// What is read is what the rules give, one by one, and so is the first rule that is broken (RFC 1035 4.1.4).
+pub fn names_follow_the_rules()
+    ensures read { ReadByRules }
+    ensures broken { BrokenByRules }
+{}
+
+/// At each offset of each payload the rules give exactly one name with its next offset, or exactly one first rule that is
+/// broken, and never both.
+pub fn rules_give_one()
+    ensures { RulesGiveOne }
+{}
+
+/// Labels are read before what stands behind them, and a pointer stands for the name at its target (RFC 1035 4.1.4).
+pub fn pointers_are_followed()
+    ensures labels { LabelsAreRead }
+    ensures pointers { PointersAreFollowed }
+{}

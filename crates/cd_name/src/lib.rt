@@ -1,0 +1,36 @@
+//! Names, and the small containers that contracts see as lists.
+//!
+//! - A *label* is 1 to 63 bytes behind a byte with their number; a *name* is labels and the root, a byte 0, in 1 to 255 bytes.
+//! - A *pointer* stands in a message for the rest of a name; `read_name` follows it. A *run* is the labels up to a root or a pointer.
+//! - A `Name` is a name without pointers. `fold` turns its letters to lower case, so that equal names have equal bytes.
+//! - A `Blob` is some bytes on the heap, a `List<T>` some items. In a clause either one is the list of what it holds, so two
+//!   are equal where they hold the same, whatever their room.
+//!
+//! In a message whose byte 12 begins the name `7 example 3 com 0`, the bytes `3 www 192 12` are the label `www` and a pointer to
+//! offset 12, together the name `3 www 7 example 3 com 0`.
+//!
+//! Offsets are bytes from the start of the message.
+#![tactic(auto)]
+
+mod blob;
+mod fault;
+mod label_run;
+mod law;
+mod list;
+mod name;
+mod name_reading;
+#[cfg(test)]
+mod name_tests;
+mod piece;
+#[cfg(test)]
+mod tests;
+
+pub use blob::Blob;
+pub use fault::{NameFault, NameWhy};
+pub use label_run::run_is_cut;
+pub use law::{
+    names_follow_the_rules, plain_names_are_read, pointers_are_followed, rules_give_one,
+};
+pub use list::List;
+pub use name::{Name, fold, is_name};
+pub use name_reading::{append_name, read_name};

@@ -1,0 +1,96 @@
+//! Names without pointers (RFC 1035 3.1).
+
+ghost use Rattle.std.specs.Prelude.{◌≡◌, ◌↔◌, IsTrue, IfOk, map};
+ghost use Rattle.std.proofs.Props.{props};
+ghost use Rattle.cd_name.specs.Names.{IsName, lower_case};
+
+use crate::piece::MAX_LABEL;
+use std::alloc::{AllocError, Global};
+use std::marker::Model;
+
+/// A name without pointers: labels of 1 to 63 bytes, each behind its length byte, and the root, in 1 to 255 bytes
+/// (RFC 1035 3.1). Contracts see it as its bytes.
+#[derive(Debug, Drop)]
+pub struct Name {
+    bytes: Vec<u8>,
+    ghost named: { IsName bytes.items } by { Prim.hlevel props },
+}
+
+impl Model for Name {
+    ghost use Rattle.std.specs.Prelude.{List, ℕ};
+
+    ghost Value = { List ℕ };
+
+    ghost view = { λ n. n.bytes.items };
+}
+
+impl Name {
+    /// The name of some bytes, which it keeps.
+    pub(crate) fn from_vec(bytes: Vec<u8>) -> Name
+        requires { IsName bytes.items }
+        ensures { result ≡ bytes.items }
+    {
+        Name { bytes }
+    }
+
+    /// The name of some bytes, which it copies. `is_name` tells whether bytes are a name. An `Err` is for want of memory.
+    pub fn from_slice(alloc: Global, bytes: &[u8]) -> Result<Name, AllocError>
+        requires { IsName bytes.now }
+        ensures { IfOk result (λ n. n ≡ bytes.now) }
+    {
+        let bytes = Vec::from_slice(alloc, bytes)?;
+        Ok(Name::from_vec(bytes))
+    }
+
+    /// The bytes of the name, 1 to 255, with the length bytes and the root.
+    pub fn as_slice(&self) -> &[u8]
+        ensures bytes { result.now ≡ self.now }
+        ensures named { IsName self.now }
+    {
+        self.bytes.as_slice()
+    }
+}
+
+/// The greatest number of bytes of a name (RFC 1035 3.1).
+const MAX_NAME: usize = 255;
+
+/// Whether the bytes are a name without pointers: labels of 1 to 63 bytes, each behind its length byte, and the root as the
+/// last byte, in 1 to 255 bytes (RFC 1035 3.1).
+pub fn is_name(bytes: &[u8]) -> bool
+    ensures { IsTrue result ↔ IsName bytes.now }
+{
+    if bytes.len() > MAX_NAME {
+        return false;
+    }
+    let mut here = 0;
+    'labels: while here < bytes.len() {
+        let size = usize::from(bytes[here]);
+        if size == 0 {
+            return here + 1 == bytes.len();
+        }
+        if size > MAX_LABEL || bytes.len() - here <= size {
+            return false;
+        }
+        here += size + 1;
+    }
+    false
+}
+
+/// The bytes in lower case: 0x41 to 0x5a become 0x61 to 0x7a, and the others stay.
+fn lower_case_bytes(alloc: Global, bytes: &[u8]) -> Result<Vec<u8>, AllocError>
+    ensures { IfOk result (λ v. v.items ≡ map lower_case bytes.now) }
+{
+    bytes
+        .iter()
+        .map(|byte| byte.to_ascii_lowercase())
+        .collect(alloc)
+}
+
+/// The name in lower case: its bytes 0x41 to 0x5a become 0x61 to 0x7a, and the others stay, so that names that differ only in
+/// case have equal bytes (RFC 1035 2.3.3). Length bytes are below 0x40 and stay. An `Err` is for want of memory.
+pub fn fold(alloc: Global, name: &Name) -> Result<Name, AllocError>
+    ensures { IfOk result (λ f. f ≡ map lower_case name.now) }
+{
+    let bytes = lower_case_bytes(alloc, name.as_slice())?;
+    Ok(Name { bytes })
+}
