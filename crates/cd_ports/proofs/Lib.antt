@@ -1,0 +1,3 @@
+pub mod Giving
+pub mod Steps
+pub mod Outputs

@@ -1,0 +1,30 @@
+//! Sources and sinks of bytes, and some of each.
+//!
+//! - A *source* gives bytes by calls of `read`, a *sink* takes them by calls of `write`.
+//! - To a contract a `Source` means the bytes that are left, where it *tells* them, a count of its *faults*, and what its
+//!   calls have answered so far; a `Sink` means what it holds, where it tells it, and likewise.
+//! - `MemSource`, `CutSource`, `SureSource` and `MemSink` stand in memory and always tell. `StdSource` and `StdSink` stand
+//!   over a reader and a writer of std and never do.
+//!
+//! A fault is a call that failed. The count of faults never falls, and rises where a call fails. Counts stand still at
+//! 2^64 - 1.
+#![tactic(auto)]
+
+mod copying;
+mod cut_source;
+mod mem_sink;
+mod mem_source;
+mod sink;
+mod source;
+mod std_ports;
+mod sure_source;
+#[cfg(test)]
+mod tests;
+
+pub use cut_source::CutSource;
+pub use mem_sink::MemSink;
+pub use mem_source::MemSource;
+pub use sink::{Sink, SinkFault};
+pub use source::{Failed, Source};
+pub use std_ports::{StdSink, StdSource};
+pub use sure_source::SureSource;
