@@ -1,0 +1,135 @@
+-- What a capture becomes as its bytes go on, and how many bytes its records have.
+use Rattle.std.proofs.Common.{◌≡◌, ℕ, zero, suc, ◌+◌, ◌*◌, ◌<◌, ◌≤◌, List, [], ◌∷◌, ◌++◌, length, drop, refl, ap, sym, ◌∙◌, arith, subst, inl, inr, length-append}
+use Rattle.std.proofs.lemmas.Bool.{cases_lt, cases_eq, cases_Bool}
+use Rattle.std.proofs.lemmas.List.{length-drop}
+use Rattle.cd_packet.specs.Bytes.{le16}
+use Rattle.cd_packet.specs.Capture.{Capture, ends, refused_capture, after, IsWholeOrCut, Grows}
+use Rattle.cd_packet.specs.Pcap.{captured_length, is_little_micro, packet_at, records, pcap}
+use Rattle.cd_packet.specs.declared.packet.Packet.{Packet}
+use Rattle.cd_packet.specs.declared.capture.EndState.{EndState}
+use Rattle.cd_packet.specs.declared.capture.EndState.TheVariants.{Whole, Cut}
+use Rattle.cd_packet.specs.declared.capture.CaptureWhy.{CaptureWhy}
+use Rattle.cd_packet.specs.declared.capture.CaptureWhy.TheVariants.{Magic, Version, Record}
+use Rattle.cd_packet.proofs.Records.{records-short, records-refused, records-cut, records-first, pcap-magic, pcap-short, pcap-version, pcap-records}
+use Rattle.cd_packet.proofs.Growing.{has_magic-append, le16-append, le32-append, packet_at-append, pcap-front}
+
+open_at : (e : EndState) (c : Capture) → c ≡ ends e → IsWholeOrCut c.end → IsWholeOrCut e
+open_at e c is h = let P : Capture → Type 0 = λ d. IsWholeOrCut d.end in subst P is h
+
+few_at : (c d : Capture) (n : ℕ) → c ≡ d → n < length d.packets * 262160 + 262160 → n < 0 + (length c.packets * 262160 + 262160)
+few_at c d n is h = let P : Capture → Type 0 = λ k. n < 0 + (length k.packets * 262160 + 262160) in subst P (sym is) (omega arith)
+
+-- Records that are not refused have few bytes: each that is whole, and less than one more.
+pub records-few : (link inside at : ℕ) (bytes : List ℕ) → IsWholeOrCut (records link inside at bytes).end →
+    length bytes < inside + (length (records link inside at bytes).packets * 262160 + 262160)
+unfolding records
+records-few link zero at [] h = omega arith
+records-few link (suc inside) at [] h = omega arith
+records-few link (suc inside) at (b ∷ bytes) h = let k = records-few link inside (at + 1) bytes h in omega arith
+records-few link zero at (b ∷ bytes) h =
+    elim (cases_lt (length (b ∷ bytes)) 16) [
+      | inl short ↦ omega arith
+      | inr long ↦ elim (cases_lt 262144 (captured_length (b ∷ bytes))) [
+        | inl large ↦ absurd (open_at _ _ (records-refused link at (b ∷ bytes) long large) h)
+        | inr small ↦ elim (cases_lt (length (b ∷ bytes)) (16 + captured_length (b ∷ bytes))) [
+          | inl cut ↦ omega arith
+          | inr whole ↦
+              let e = records-first link at b bytes long small whole in
+              let inner : Capture = records link (15 + captured_length (b ∷ bytes)) (at + 1) bytes in
+              let P : Capture → Type 0 = λ d. IsWholeOrCut d.end in
+              let k = records-few link (15 + captured_length (b ∷ bytes)) (at + 1) bytes (subst P e h) in
+              few_at _ _ (length (b ∷ bytes)) e (omega arith)
+        ]
+      ]
+    ]
+
+pub pcap-few : (bytes : List ℕ) → IsWholeOrCut (pcap bytes).end → length bytes < 24 + (length (pcap bytes).packets * 262160 + 262160)
+pcap-few bytes h =
+    elim (cases_lt (length bytes) 24) [
+      | inl short ↦ omega arith
+      | inr long ↦ elim (cases_Bool (is_little_micro bytes)) [
+        | inr other ↦ absurd (open_at _ _ (pcap-magic bytes other) h)
+        | inl magic ↦ elim (cases_eq (le16 4 bytes) 2) [
+          | inr three ↦ absurd (open_at _ _ (pcap-version bytes magic long three) h)
+          | inl two ↦
+              let e = pcap-records bytes magic long two in
+              let P : Capture → Type 0 = λ d. IsWholeOrCut d.end in
+              let Q : Capture → Type 0 = λ d. length bytes < 24 + (length d.packets * 262160 + 262160) in
+              let k = records-few (le16 20 bytes) 0 24 (drop 24 bytes) (subst P e h) in
+              subst Q (sym e) (omega (arith, length-drop 24 bytes))
+        ]
+      ]
+    ]
+
+-- the same capture, read in another way
+grows_at : (a b now later : Capture) → now ≡ a → later ≡ b → Grows a b → Grows now later
+grows_at a b now later e f g =
+    let P : Capture → Type 0 = λ c. Grows c later in
+    let Q : Capture → Type 0 = λ c. Grows a c in
+    subst P (sym e) (subst Q (sym f) g)
+
+-- behind an open end anything may come
+grows_whole : (later : Capture) → Grows (ends Whole) later
+grows_whole later = record { rest = later; packets = refl; refused = λ b e. absurd cc }
+
+grows_cut : (later : Capture) → Grows (ends Cut) later
+grows_cut later = record { rest = later; packets = refl; refused = λ b e. absurd cc }
+
+grows_refused : (at : ℕ) (why : CaptureWhy) → Grows (refused_capture at why) (refused_capture at why)
+grows_refused at why = record { rest = refused_capture at why; packets = refl; refused = λ b e. refl }
+
+grows_after : (p : Packet) (now later : Capture) → Grows now later → Grows (after (p ∷ []) now) (after (p ∷ []) later)
+grows_after p now later g = record {
+  rest = g.rest;
+  packets = ap (λ c. after (p ∷ []) c) g.packets;
+  refused = g.refused;
+}
+
+pub records-grow : (link inside at : ℕ) (xs more : List ℕ) → Grows (records link inside at xs) (records link inside at (xs ++ more))
+unfolding records
+records-grow link zero at [] more = grows_whole _
+records-grow link (suc inside) at [] more = grows_cut _
+records-grow link (suc inside) at (b ∷ xs) more = records-grow link inside (at + 1) xs more
+records-grow link zero at (b ∷ xs) more =
+    let len : length (xs ++ more) ≡ length xs + length more = length-append xs more in
+    elim (cases_lt (length (b ∷ xs)) 16) [
+      | inl short ↦ grows_at _ _ _ _ (records-short link at (b ∷ xs) (omega arith) short) refl (grows_cut _)
+      | inr long ↦
+          let same : captured_length (b ∷ (xs ++ more)) ≡ captured_length (b ∷ xs) = le32-append 8 (b ∷ xs) more (omega arith) in
+          elim (cases_lt 262144 (captured_length (b ∷ xs))) [
+            | inl large ↦ grows_at _ _ _ _ (records-refused link at (b ∷ xs) long large)
+                (records-refused link at (b ∷ (xs ++ more)) (omega arith) (omega arith)) (grows_refused at Record)
+            | inr small ↦ elim (cases_lt (length (b ∷ xs)) (16 + captured_length (b ∷ xs))) [
+              | inl cut ↦ grows_at _ _ _ _ (records-cut link at (b ∷ xs) long small cut) refl (grows_cut _)
+              | inr whole ↦
+                  let first : packet_at link at (b ∷ (xs ++ more)) ≡ packet_at link at (b ∷ xs) = packet_at-append link at (b ∷ xs) more whole in
+                  let rest : ℕ → Capture = λ n. records link (15 + n) (at + 1) (xs ++ more) in
+                  let later : records link 0 at (b ∷ (xs ++ more)) ≡ after (packet_at link at (b ∷ xs) ∷ []) (rest (captured_length (b ∷ xs))) =
+                  records-first link at b (xs ++ more) (omega arith) (omega arith) (omega arith)
+                  ∙ ap (λ p. after (p ∷ []) (rest (captured_length (b ∷ (xs ++ more))))) first
+                  ∙ ap (λ n. after (packet_at link at (b ∷ xs) ∷ []) (rest n)) same in
+                  grows_at _ _ _ _ (records-first link at b xs long small whole) later
+                  (grows_after (packet_at link at (b ∷ xs)) _ _ (records-grow link (15 + captured_length (b ∷ xs)) (at + 1) xs more))
+            ]
+          ]
+    ]
+
+-- From four bytes on, what is read stays as the bytes go on.
+pub pcap-grow : (xs more : List ℕ) → 4 ≤ length xs → Grows (pcap xs) (pcap (xs ++ more))
+pcap-grow xs more four =
+    let len : length (xs ++ more) ≡ length xs + length more = length-append xs more in
+    let magic_stays : is_little_micro (xs ++ more) ≡ is_little_micro xs = has_magic-append 0xa1b2c3d4 xs more four in
+    elim (cases_Bool (is_little_micro xs)) [
+      | inr other ↦ grows_at _ _ _ _ (pcap-magic xs other) (pcap-magic (xs ++ more) (magic_stays ∙ other)) (grows_refused 0 Magic)
+      | inl magic ↦ elim (cases_lt (length xs) 24) [
+        | inl short ↦ grows_at _ _ _ _ (pcap-short xs magic short) refl (grows_cut _)
+        | inr long ↦
+            let version_stays : le16 4 (xs ++ more) ≡ le16 4 xs = le16-append 4 xs more (omega arith) in
+            elim (cases_eq (le16 4 xs) 2) [
+              | inr three ↦ grows_at _ _ _ _ (pcap-version xs magic long three)
+                  (pcap-version (xs ++ more) (magic_stays ∙ magic) (omega arith) (λ e. three (sym version_stays ∙ e))) (grows_refused 0 Version)
+              | inl two ↦ grows_at _ _ _ _ (pcap-records xs magic long two) (pcap-front xs more magic long two)
+                  (records-grow (le16 20 xs) 0 24 (drop 24 xs) more)
+            ]
+      ]
+    ]

@@ -1,0 +1,5 @@
+pub mod Records
+pub mod Growing
+pub mod Extending
+pub mod Spelled
+pub mod Skipping

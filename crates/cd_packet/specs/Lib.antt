@@ -1,0 +1,7 @@
+pub mod Bytes
+pub mod Time
+pub mod Capture
+pub mod Pcap
+pub mod Layers
+pub mod Spelled
+pub mod IpPackets
