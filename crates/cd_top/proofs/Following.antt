@@ -1,0 +1,156 @@
+-- What the intake knows of the bytes that it has taken.
+use Rattle.std.proofs.Common.{◌≡◌, ℕ, ◌+◌, ◌-◌, ◌<◌, ◌≤◌, min, Bool, true, false, ◌&&◌, cond, List, [], ◌∷◌, ◌++◌, length, take, drop, Option, Some, None, is_some, refl, ap, sym, ◌∙◌, arith, inl, inr, append_assoc, length-append}
+use Rattle.std.specs.Prelude.{nat_lt}
+use Rattle.std.proofs.lemmas.Bool.{cases_lt}
+use Rattle.std.proofs.lemmas.List.{append-nil, take_all, take-append-le, length-take, take_min, take-append-drop}
+use Rattle.std.proofs.lemmas.List.Elements.{filter_map-append}
+use Rattle.std.proofs.Math.Seq.{take-append-add}
+use Rattle.cd_packet.specs.Capture.{Capture}
+use Rattle.cd_packet.specs.Pcap.{is_little_micro, pcap}
+use Rattle.cd_packet.specs.declared.capture.EndState.{EndState}
+use Rattle.cd_packet.specs.declared.capture.EndState.TheVariants.{Whole, Cut, Bad}
+use Rattle.cd_packet.specs.declared.packet.Packet.{Packet}
+use Rattle.cd_top.specs.Events.{query_of, queries_of, events}
+use Rattle.cd_top.specs.Gathered.{Follows, Drains, Judges, served_query}
+use Rattle.cd_top.specs.Endings.{is_other_format, is_served, first_unserved, status_of_end, status_of_packets, status_of_capture, status_said, most_packets}
+use Rattle.cd_top.specs.Reading.{Unread, StandsFor, BeforeRefused, fed_count, reading_on}
+use Rattle.cd_top.specs.declared.intake.Intake.{Intake}
+use Rattle.cd_top.specs.declared.query.Query.{Query}
+use Rattle.cd_top.specs.declared.status.Status.{Status}
+use Rattle.cd_top.specs.declared.status.Status.TheVariants as status
+use Rattle.cd_packet.proofs.Records.{pcap-magic, pcap-none}
+use Rattle.cd_packet.proofs.Growing.{has_magic-few}
+use Rattle.cd_top.proofs.Judging.{served-append, served-count, other-append, other-not_read, status_said-few, status_said-other}
+
+-- a piece behind bytes of which the first four are kept
+pub first_kept : (fed piece first : List ℕ) → first ≡ take 4 fed →
+    first ++ take (min (4 - length first) (length piece)) piece ≡ take 4 (fed ++ piece)
+first_kept fed piece first is =
+    let size : length first ≡ min 4 (length fed) = ap length is ∙ length-take 4 fed in
+    ap (λ t. first ++ t) (take_min (4 - length first) piece)
+    ∙ elim (cases_lt (length fed) 4) [
+      | inl few ↦
+          let all : first ≡ fed = is ∙ take_all 4 fed (omega arith) in
+          let n : length fed + (4 - length fed) ≡ 4 = omega arith in
+          ap (λ t. t ++ take (4 - length t) piece) all ∙ sym (take-append-add fed piece (4 - length fed)) ∙ ap (λ k. take k (fed ++ piece)) n
+      | inr many ↦
+          let none : 4 - length first ≡ 0 = omega arith in
+          ap (λ k. first ++ take k piece) none ∙ append-nil first ∙ is ∙ sym (take-append-le 4 fed piece many)
+    ]
+
+-- as many bytes were fed as the reader says
+pub stands_count : (r : Unread) (fed : List ℕ) (given : List Packet) → StandsFor r fed given → length fed ≡ fed_count r
+stands_count r fed given h = ap length h.split ∙ length-append h.front r.held ∙ ap (λ n. n + length r.held) h.place
+
+-- the packets given are the first of the bytes fed
+pub given_first : (r : Unread) (fed : List ℕ) (given : List Packet) → StandsFor r fed given → (rest : List Packet) × ((pcap fed).packets ≡ given ++ rest)
+given_first r fed given h =
+    ((reading_on r.link r.at r.held).packets, ap (λ t. (pcap t).packets) h.split ∙ ap (λ (c : Capture). c.packets) (h.reads r.held))
+
+-- the end of bytes whose packets can all be compacted
+pub drains_end : (i : Intake) (fed : List ℕ) (given : List Packet) (e : EndState) → first_unserved 0 given ≡ None → i.queries ≡ queries_of given →
+    i.first.items ≡ take 4 fed → StandsFor i.reader fed given → pcap fed ≡ record { packets = given; end = e } → BeforeRefused e fed given →
+    Drains i fed (status_of_end e)
+drains_end i fed given Whole served queries first stands is before = (
+  record { given = given; stands = stands; served = served; queries = queries; first = first },
+  ap status_of_capture is ∙ ap (λ o. status_of_packets o Whole) served,
+  queries ∙ sym (ap (λ (c : Capture). queries_of c.packets) is),
+)
+drains_end i fed given Cut served queries first stands is before = (
+  record { given = given; stands = stands; served = served; queries = queries; first = first },
+  ap status_of_capture is ∙ ap (λ o. status_of_packets o Cut) served,
+  queries ∙ sym (ap (λ (c : Capture). queries_of c.packets) is),
+)
+drains_end i fed given (Bad b) served queries first stands is before =
+    (ap status_of_capture is ∙ ap (λ o. status_of_packets o (Bad b)) served, queries ∙ sym (ap queries_of before))
+
+some_chosen : (b : Bool) (o : Option Query) → is_some (cond b o None) ≡ (b && is_some o)
+some_chosen true o = refl
+some_chosen false o = refl
+
+-- a packet can be compacted exactly where it has a query and room
+served_is : (n : ℕ) (p : Packet) → is_some (served_query n p) ≡ is_served n p
+served_is n p = some_chosen (nat_lt n most_packets) (query_of p)
+
+-- a packet that can't be compacted behind those that can
+pub drains_unserved : (before : List Query) (r : Unread) (fed : List ℕ) (given : List Packet) (p : Packet) → first_unserved 0 given ≡ None → before ≡ queries_of given →
+    StandsFor r fed (given ++ p ∷ []) → (pcap (take p.at fed)).packets ≡ given → None ≡ served_query (length before) p →
+    (status_of_capture (pcap fed) ≡ Some (status.NotYet p.at)) × (before ≡ events (take p.at fed))
+drains_unserved before r fed given p served queries stands packets_before none =
+    let k = given_first r fed (given ++ p ∷ []) stands in
+    let count : length before ≡ length given = ap length queries ∙ served-count 0 given served in
+    let unserved : is_served (0 + length given) p ≡ false =
+    let zero_more : 0 + length given ≡ length before = omega arith in
+    ap (λ n. is_served n p) zero_more ∙ sym (served_is (length before) p) ∙ ap is_some (sym none) in
+    let there : first_unserved 0 (given ++ p ∷ k.0) ≡ Some p.at =
+    served-append 0 given (p ∷ k.0) served ∙ rw unserved refl in
+    let packets : (pcap fed).packets ≡ given ++ p ∷ k.0 = k.1 ∙ append_assoc given (p ∷ []) k.0 in (
+      ap (λ ps. status_of_packets (first_unserved 0 ps) (pcap fed).end) packets ∙ ap (λ o. status_of_packets o (pcap fed).end) there,
+      queries ∙ sym (ap queries_of packets_before),
+    )
+
+query_some : (b : Bool) (o : Option Query) (q : Query) → Some q ≡ cond b o None → (b ≡ true) × (o ≡ Some q)
+query_some true o q e = (refl, sym e)
+query_some false o q e = absurd cc
+
+-- a packet that can be compacted behind those that can
+pub follows_served : (i : Intake) (fed : List ℕ) (given : List Packet) (p : Packet) (q : Query) (before : List Query) → first_unserved 0 given ≡ None →
+    before ≡ queries_of given → StandsFor i.reader fed (given ++ p ∷ []) → i.first.items ≡ take 4 fed →
+    Some q ≡ served_query (length before) p → i.queries ≡ before ++ q ∷ [] → Follows i fed
+follows_served i fed given p q before served queries stands first some pushed =
+    let count : length before ≡ length given = ap length queries ∙ served-count 0 given served in
+    let k = query_some (nat_lt (length before) most_packets) (query_of p) q some in
+    let zero_more : 0 + length given ≡ length before = omega arith in
+    let here : is_served (0 + length given) p ≡ true = ap (λ n. is_served n p) zero_more ∙ sym (served_is (length before) p) ∙ ap is_some (sym some) in
+    let alone : first_unserved (0 + length given) (p ∷ []) ≡ None = rw here refl in
+    let one : queries_of (p ∷ []) ≡ q ∷ [] = rw k.1 refl in
+    record {
+      given = given ++ p ∷ [];
+      stands = stands;
+      served = served-append 0 given (p ∷ []) served ∙ alone;
+      queries = pushed ∙ ap (λ t. t ++ q ∷ []) queries ∙ ap (λ t. queries_of given ++ t) (sym one) ∙ sym (filter_map-append query_of given (p ∷ []));
+      first = first;
+    }
+
+-- what the packets say, the bytes say
+pub judges_drained : (told_end : Bool) (i : Intake) (fed : List ℕ) (said : Option Status) → status_said told_end fed ≡ status_of_capture (pcap fed) → Drains i fed said →
+    Judges told_end i fed said
+judges_drained told_end i fed None same d = (d.0, same ∙ d.1, d.2)
+judges_drained told_end i fed (Some s) same d = (same ∙ d.0, d.1)
+
+-- as many of the first four bytes are kept as were fed
+pub first_count : (i : Intake) (fed : List ℕ) → Follows i fed → length i.first.items ≡ min 4 (length fed)
+first_count i fed f = ap length f.first ∙ length-take 4 fed
+
+-- the first four bytes decide the format
+pub other_first : (i : Intake) (fed : List ℕ) → Follows i fed → 4 ≤ length i.first.items → is_other_format i.first.items ≡ is_other_format fed
+other_first i fed f four =
+    let size : length (take 4 fed) ≡ length i.first.items = ap length (sym f.first) in
+    ap is_other_format f.first ∙ sym (other-append (take 4 fed) (drop 4 fed) (omega arith)) ∙ ap is_other_format (take-append-drop 4 fed)
+
+none_of_none : (ps rest : List Packet) → [] ≡ ps ++ rest → ps ≡ []
+none_of_none [] rest e = refl
+none_of_none (p ∷ ps) rest e = absurd cc
+
+-- bytes with another magic have given no packet
+none_given : (i : Intake) (fed : List ℕ) → (f : Follows i fed) → is_little_micro fed ≡ false → i.queries ≡ queries_of (pcap fed).packets
+none_given i fed f other =
+    let k = given_first i.reader fed f.given f.stands in
+    let none : (pcap fed).packets ≡ [] = ap (λ (c : Capture). c.packets) (pcap-magic fed other) in
+    f.queries ∙ ap queries_of (none_of_none f.given k.0 (sym none ∙ k.1)) ∙ sym (ap queries_of none)
+
+-- fewer than four bytes say nothing before the end
+pub judges_few : (i : Intake) (fed : List ℕ) → Follows i fed → length fed < 4 → Judges false i fed None
+judges_few i fed f few = (f, status_said-few fed few, none_given i fed f (has_magic-few 0xa1b2c3d4 fed few))
+
+-- bytes of another format have no packet, and the bytes before offset 0 have no query
+pub judges_other : (told_end : Bool) (i : Intake) (fed : List ℕ) → Follows i fed → 4 ≤ length fed → is_other_format fed ≡ true →
+    Judges told_end i fed (Some (status.NotYet 0))
+judges_other told_end i fed f four other =
+    let little : is_little_micro fed ≡ false = other-not_read fed four other in
+    let same : (pcap fed).packets ≡ (pcap []).packets = ap (λ (c : Capture). c.packets) (pcap-magic fed little ∙ sym pcap-none) in
+    (status_said-other told_end fed four other, none_given i fed f little ∙ ap queries_of same)
+
+-- no byte has no query
+pub none_queries : (i : Intake) → Follows i [] → i.queries ≡ events []
+none_queries i f = none_given i [] f (has_magic-few 0xa1b2c3d4 [] (omega arith))

@@ -1,0 +1,13 @@
+pub mod Places
+pub mod Fronts
+pub mod Standing
+pub mod Judging
+pub mod Following
+pub mod Waiting
+pub mod Compacting
+pub mod Distinct
+pub mod Interning
+pub mod Octets
+pub mod Once
+pub mod Elements
+pub mod Parts

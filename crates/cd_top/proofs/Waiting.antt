@@ -1,0 +1,204 @@
+-- The state between two reads: what was taken says nothing yet of how the run ends.
+use Rattle.std.proofs.Common.{◌≡◌, ℕ, ◌+◌, ◌-◌, ◌<◌, ◌≤◌, Bool, true, false, List, [], ◌++◌, length, Option, Some, None, Result, Ok, Err, refl, ap, sym, ◌∙◌, arith, inl, inr, length-append}
+use Rattle.std.specs.Prelude.{unwrap_or, OnErr, ◌||◌, ◌&&◌, nat_eq, zero, suc}
+use Rattle.std.proofs.lemmas.Bool.{cases_lt, cases_Bool, false≢true}
+use Rattle.std.proofs.lemmas.List.{append-nil}
+use Rattle.std.specs.Io.KnownBytes.{Consumes, Keeps}
+use Rattle.cd_packet.specs.Pcap.{pcap}
+use Rattle.cd_packet.proofs.Extending.{pcap-few}
+use Rattle.cd_ports.proofs.Steps.{consumes_then, consumes_none, consumes_kept, keeps_same}
+use Rattle.cd_top.specs.Events.{events}
+use Rattle.cd_top.specs.Gathered.{Follows, Judges, Gathers, IsEnding}
+use Rattle.cd_top.specs.Endings.{is_other_format, status_said, ended_by, used_bytes, most_taken, StopsReading}
+use Rattle.cd_top.specs.Reading.{fed_count}
+use Rattle.cd_top.specs.declared.gathering.Gathered.{Gathered}
+use Rattle.cd_top.specs.declared.intake.Intake.{Intake}
+use Rattle.cd_top.specs.declared.query.Query.{Query}
+use Rattle.cd_top.specs.declared.status.Status.{Status}
+use Rattle.cd_top.specs.declared.status.Status.TheVariants as status
+use Rattle.cd_top.proofs.Judging.{served-few, status_said-none, status_said-other, status_said-read, unsaid-capture, IsNoEnd, status_said-no_end, status_said-ending}
+use Rattle.cd_ports.specs.Counter.{next_count}
+use Rattle.cd_top.proofs.Following.{stands_count, none_queries}
+
+-- bytes that say nothing are few
+pub unsaid-few : (bytes : List ℕ) → status_said false bytes ≡ None → length bytes < most_taken
+unsaid-few bytes none =
+    elim (cases_lt (length bytes) 4) [
+      | inl few ↦ omega arith
+      | inr four ↦ elim (cases_Bool (is_other_format bytes)) [
+        | inl other ↦ let e = status_said-other false bytes four other in absurd cc
+        | inr read ↦
+            let u = unsaid-capture (pcap bytes) (sym (status_said-read false bytes four read) ∙ none) in
+            let packets = served-few 0 (pcap bytes).packets (omega arith) u.packets in
+            omega (arith, pcap-few bytes u.end)
+      ]
+    ]
+
+-- Some bytes were taken and say nothing yet. Their queries are there, and so many more bytes may be taken.
+pub record Awaits (old now : Option (List ℕ)) (intake : Intake) (room : ℕ) : Type 0 where
+  pub taken : List ℕ
+  pub took : Consumes old now taken
+  pub follows : Follows intake taken
+  pub unsaid : status_said false taken ≡ None
+  pub queries : intake.queries ≡ events taken
+  pub count : length taken + room ≡ most_taken
+
+pub awaits_room : (old now : Option (List ℕ)) (intake : Intake) (room : ℕ) → Awaits old now intake room → 0 < room
+awaits_room old now intake room h = let few = unsaid-few h.taken h.unsaid in omega (arith, h.count)
+
+pub awaits_fed : (old now : Option (List ℕ)) (intake : Intake) (room : ℕ) → Awaits old now intake room → fed_count intake.reader + room ≡ most_taken
+awaits_fed old now intake room h = omega (arith, h.count, stands_count intake.reader h.taken h.follows.given h.follows.stands)
+
+-- what was taken before a read is read in time
+pub awaits_stops : (old now : Option (List ℕ)) (intake : Intake) (room : ℕ) → (h : Awaits old now intake room) → StopsReading h.taken
+awaits_stops old now intake room h = record {
+  before = h.taken;
+  last = [];
+  split = sym (append-nil h.taken);
+  piece = omega arith;
+  undecided = h.unsaid;
+  few = omega (arith, h.count);
+}
+
+-- nothing was taken
+pub awaits_none : (left : Option (List ℕ)) (intake : Intake) → Follows intake [] → Awaits left left intake most_taken
+awaits_none left intake f = record {
+  taken = [];
+  took = consumes_none left left (keeps_same left);
+  follows = f;
+  unsaid = status_said-none;
+  queries = none_queries intake f;
+  count = omega arith;
+}
+
+-- to take nothing is to stop in time
+pub none_stops : StopsReading []
+none_stops = record { before = []; last = []; split = refl; piece = omega arith; undecided = status_said-none; few = omega arith }
+
+-- what a run took that was refused memory at its start
+pub took_none : (left : Option (List ℕ)) → (taken : List ℕ) × Consumes left left taken × StopsReading taken
+took_none left = ([], consumes_none left left (keeps_same left), none_stops)
+
+-- what a run took that ends with this status and these queries
+abbrev pub Ends : Option (List ℕ) → Option (List ℕ) → Bool → Gathered → Type 0
+Ends old now told_end g = (taken : List ℕ) × Consumes old now taken × (Gathers taken told_end g × StopsReading taken)
+
+-- a read failed
+pub ends_failed : (old a b : Option (List ℕ)) (intake : Intake) (room : ℕ) → Awaits old a intake room → Keeps a b →
+    Ends old b false (record { status = status.ReadFault; queries = intake.queries })
+ends_failed old a b intake room h kept = (
+  h.taken,
+  consumes_kept old a b h.taken h.took kept,
+  (record { status = sym (ap (λ o. unwrap_or o status.ReadFault) h.unsaid); queries = h.queries }, awaits_stops old a intake room h),
+)
+
+-- what is known once a piece was taken
+pub record Taken (old now : Option (List ℕ)) (intake : Intake) (room : ℕ) : Type 0 where
+  pub taken : List ℕ
+  pub took : Consumes old now taken
+  pub follows : Follows intake taken
+  pub count : length taken + room ≡ most_taken
+  pub stops : StopsReading taken
+
+-- a piece was taken, whether memory was found for it or not
+pub took_piece : (old a b : Option (List ℕ)) (i : Intake) (room n : ℕ) (piece : List ℕ) → Awaits old a i room → Consumes a b piece → length piece ≡ n → n ≤ room →
+    n ≤ 65536 → (taken : List ℕ) × Consumes old b taken × StopsReading taken
+took_piece old a b i room n piece h took size within small = (
+  h.taken ++ piece,
+  consumes_then old a b h.taken piece h.took took,
+  record {
+    before = h.taken;
+    last = piece;
+    split = refl;
+    piece = omega arith;
+    undecided = h.unsaid;
+    few = omega (arith, h.count, length-append h.taken piece);
+  },
+)
+
+pub taken_piece : (old a b : Option (List ℕ)) (i j : Intake) (room n : ℕ) (piece : List ℕ) → Awaits old a i room → Consumes a b piece → length piece ≡ n → n ≤ room →
+    n ≤ 65536 → ((fed : List ℕ) → Follows i fed → Follows j (fed ++ piece)) → Taken old b j (room - n)
+unfolding took_piece
+taken_piece old a b i j room n piece h took size within small step =
+    let t = took_piece old a b i room n piece h took size within small in
+    record {
+      taken = h.taken ++ piece;
+      took = t.1;
+      follows = step h.taken h.follows;
+      count = omega (arith, h.count, length-append h.taken piece);
+      stops = t.2;
+    }
+
+ended_as_told : (t : Bool) (bytes : List ℕ) (s : Status) → status_said t bytes ≡ Some s → s ≡ ended_by bytes t
+ended_as_told t bytes s e = rw e refl
+
+-- the bytes say how the run ends
+pub ends_said : (old now : Option (List ℕ)) (i j : Intake) (room : ℕ) (told_end : Bool) (s : Status) → Taken old now i room →
+    ((fed : List ℕ) → Follows i fed → Judges told_end j fed (Some s)) → Ends old now told_end (record { status = s; queries = j.queries })
+ends_said old now i j room told_end s h judges =
+    let k = judges h.taken h.follows in
+    (h.taken, h.took, (record { status = ended_as_told told_end h.taken s k.0; queries = k.1 }, h.stops))
+
+-- the bytes say nothing at their end
+pub ends_done : (old now : Option (List ℕ)) (i j : Intake) (room : ℕ) → Taken old now i room →
+    ((fed : List ℕ) → Follows i fed → Judges true j fed None) → Ends old now true (record { status = status.Done; queries = j.queries })
+ends_done old now i j room h judges =
+    let k = judges h.taken h.follows in
+    (h.taken, h.took, (record { status = sym (ap (λ o. unwrap_or o status.Done) k.1); queries = k.2 }, h.stops))
+
+-- the bytes say nothing yet
+pub awaits_more : (old now : Option (List ℕ)) (i j : Intake) (room : ℕ) → Taken old now i room →
+    ((fed : List ℕ) → Follows i fed → Judges false j fed None) → Awaits old now j room
+awaits_more old now i j room h judges =
+    let k = judges h.taken h.follows in
+    record { taken = h.taken; took = h.took; follows = k.0; unsaid = k.1; queries = k.2; count = h.count }
+
+-- what the bytes say is an end of the reading, other than that of the source
+pub said_ending : (told_end : Bool) (old now : Option (List ℕ)) (i j : Intake) (room : ℕ) (s : Status) → Taken old now i room →
+    ((fed : List ℕ) → Follows i fed → Judges told_end j fed (Some s)) → IsNoEnd s × IsEnding s
+said_ending told_end old now i j room s h judges =
+    let k = judges h.taken h.follows in
+    (status_said-no_end told_end h.taken s k.0, status_said-ending told_end h.taken s k.0)
+
+-- the calls of the source stay within their bound
+pub calls_within : (old now new room n : ℕ) → now + room ≤ old + most_taken → new ≡ next_count now → 0 < room → n ≤ room →
+    (0 < n → new + (room - n) ≤ old + most_taken) × (new ≤ old + most_taken)
+calls_within old now new room n before is some within = (λ more. omega arith, omega arith)
+
+-- what holds anyway holds at an error
+pub on_err : {T E P : Type 0} (r : Result T E) → P → OnErr r P
+on_err (Ok x) p = tt
+on_err (Err e) p = p
+
+-- the same end, of the status and the queries that were handed out
+pub ends_at : (old now : Option (List ℕ)) (t u : Bool) (s : Status) (qs : List Query) (g : Gathered) → t ≡ u → g.status ≡ s → g.queries ≡ qs →
+    Ends old now u (record { status = s; queries = qs }) → Ends old now t g
+ends_at old now t u s qs g told same_status same_queries h = (
+  h.0,
+  h.1,
+  (
+    record {
+      status = same_status ∙ h.2.0.status ∙ ap (λ v. ended_by h.0 v) (sym told);
+      queries = same_queries ∙ h.2.0.queries ∙ ap (λ v. events (used_bytes v h.0)) (sym same_status);
+    },
+    h.2.1,
+  ),
+)
+
+-- a read that gave bytes is no failure
+pub failed_stays : (a b c : Bool) → a ≡ (b || false) → b ≡ c → a ≡ c
+failed_stays a true c e f = e ∙ f
+failed_stays a false c e f = e ∙ f
+
+-- where no read failed before, no byte came after a failure
+pub late_stays : (failed gave a b c : Bool) → failed ≡ false → a ≡ (b || (failed && gave)) → b ≡ c → a ≡ c
+late_stays failed gave a b c none e f = e ∙ rw none (none_late b) ∙ f
+  where
+    none_late : (d : Bool) → (d || false) ≡ d
+    none_late true = refl
+    none_late false = refl
+
+-- a count that is not 0
+pub some_count : (n : ℕ) → nat_eq n 0 ≡ false → 0 < n
+some_count zero e = absurd (false≢true (sym e))
+some_count (suc n) e = omega arith

@@ -1,0 +1,58 @@
+-- How the tables of a block grow, item by item.
+use Rattle.std.specs.Prelude.{ℕ, Bool, List, [], ◌∷◌, ◌++◌, position, is_some, if◌then◌else◌}
+use Rattle.cd_top.specs.Kept.{KeptSig, KeptItem}
+use Rattle.cd_top.specs.Tables.{place_in, same_address, same_sig, indexed_item}
+use Rattle.cd_top.specs.declared.block.BlockSig.{BlockSig}
+use Rattle.cd_top.specs.declared.intern.Tables.{Tables}
+
+-- a table with one more value, which it may have already
+abbrev pub put : {T : Type 0} → (T → T → Bool) → List T → T → List T
+put same table value = if is_some (position (same value) table) then table else table ++ value ∷ []
+
+-- a signature whose address stands at this place
+abbrev pub placed_sig : ℕ → KeptSig → BlockSig
+placed_sig place s = record {
+  server_address = place;
+  server_port = s.server_port;
+  transport_flags = s.transport_flags;
+  sig_flags = s.sig_flags;
+  opcode = s.opcode;
+  dns_flags = s.dns_flags;
+  query_rcode = s.query_rcode;
+  qd = s.qd;
+  an = s.an;
+  ns = s.ns;
+  ar = s.ar;
+}
+
+-- tables that hold nothing
+abbrev pub no_tables : Tables
+no_tables = record { addresses = []; signatures = []; block_signatures = []; items = [] }
+
+-- the tables with this signature, whose address stands at this place
+abbrev pub put_sig : Tables → ℕ → KeptSig → Tables
+put_sig t place s = record t {
+  signatures = put same_sig t.signatures s;
+  block_signatures =
+      if is_some (position (same_sig s) t.signatures) then t.block_signatures
+      else t.block_signatures ++ placed_sig place s ∷ [];
+}
+
+-- the addresses with these of one item: the client's and then the server's
+abbrev pub put_addresses : List (List ℕ) → KeptItem → List (List ℕ)
+put_addresses addresses i =
+    put same_address (put same_address addresses i.client_address) i.signature.server_address
+
+-- the place of the server's address of an item, where it is or will be put
+abbrev pub server_place : List (List ℕ) → KeptItem → ℕ
+server_place addresses i =
+    place_in same_address (put same_address addresses i.client_address) i.signature.server_address
+
+-- the tables with one more item
+unfoldable pub put_item : Tables → KeptItem → Tables
+put_item t i = record {
+  addresses = put_addresses t.addresses i;
+  signatures = put same_sig t.signatures i.signature;
+  block_signatures = (put_sig t (server_place t.addresses i) i.signature).block_signatures;
+  items = t.items ++ indexed_item t.addresses t.signatures i ∷ [];
+}

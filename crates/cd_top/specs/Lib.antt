@@ -1,0 +1,15 @@
+pub mod Events
+pub mod Kept
+pub mod Tables
+pub mod Interning
+pub mod Tree
+pub mod File
+pub mod Parts
+pub mod Reading
+pub mod Fronts
+pub mod Giving
+pub mod Words
+pub mod Endings
+pub mod Gathered
+pub mod Pieces
+pub mod Run

@@ -1,0 +1,76 @@
+-- A tree of CBOR values and its one canonical spelling: the shortest heads, and definite lengths but for the array of
+-- blocks (RFC 8949 3 and 4.2.1).
+use Rattle.std.specs.Prelude.{ℕ, ◌+◌, ◌*◌, ◌/◌, ◌%◌, nat_lt, List, [], ◌∷◌, ◌++◌, length, if◌then◌else◌}
+
+-- the two big-endian bytes of a number
+abbrev pub be_bytes16 : ℕ → List ℕ
+be_bytes16 n = n / 0x100 ∷ n % 0x100 ∷ []
+
+-- the four big-endian bytes of a number
+abbrev pub be_bytes32 : ℕ → List ℕ
+be_bytes32 n = n / 0x100_0000 ∷ n / 0x1_0000 % 0x100 ∷ n / 0x100 % 0x100 ∷ n % 0x100 ∷ []
+
+-- the eight big-endian bytes of a number
+abbrev pub be_bytes64 : ℕ → List ℕ
+be_bytes64 n = be_bytes32 (n / 0x1_0000_0000) ++ be_bytes32 (n % 0x1_0000_0000)
+
+-- a head of this major type, as short as it can be
+unfoldable pub head_of : ℕ → ℕ → List ℕ
+head_of major n =
+    if nat_lt n 24 then (major * 32 + n) ∷ []
+    else (if nat_lt n 0x100 then (major * 32 + 24) ∷ n ∷ []
+    else (if nat_lt n 0x1_0000 then (major * 32 + 25) ∷ be_bytes16 n
+    else (if nat_lt n 0x1_0000_0000 then (major * 32 + 26) ∷ be_bytes32 n
+    else (major * 32 + 27) ∷ be_bytes64 n)))
+
+-- a CBOR value
+pub data Tree : Type 0 where
+  unsigned : ℕ → Tree
+  bytes : List ℕ → Tree
+  text : List ℕ → Tree
+  -- an array of these elements
+  array : Tree → Tree
+  -- a map of these keys and values, one after another
+  cbor_map : Tree → Tree
+  -- an array of indefinite length
+  indefinite_array : Tree → Tree
+  -- no element, and an element before others
+  none : Tree
+  more : Tree → Tree → Tree
+
+-- how many elements there are
+abbrev pub count_of : Tree → ℕ
+count_of (more t ts) = 1 + count_of ts
+count_of none = 0
+count_of (unsigned n) = 0
+count_of (bytes bs) = 0
+count_of (text bs) = 0
+count_of (array ts) = 0
+count_of (cbor_map ts) = 0
+count_of (indefinite_array ts) = 0
+
+-- the bytes of a value
+abbrev pub spelling : Tree → List ℕ
+spelling (unsigned n) = head_of 0 n
+spelling (bytes bs) = head_of 2 (length bs) ++ bs
+spelling (text bs) = head_of 3 (length bs) ++ bs
+spelling (array ts) = head_of 4 (count_of ts) ++ spelling ts
+spelling (cbor_map ts) = head_of 5 (count_of ts / 2) ++ spelling ts
+spelling (indefinite_array ts) = 0x9f ∷ (spelling ts ++ 0xff ∷ [])
+spelling none = []
+spelling (more t ts) = spelling t ++ spelling ts
+
+-- these trees as elements
+abbrev pub elements : List Tree → Tree
+elements [] = none
+elements (t ∷ ts) = more t (elements ts)
+
+-- these keys and values as entries
+abbrev pub entries : List (ℕ × Tree) → Tree
+entries [] = none
+entries (e ∷ es) = more (unsigned e.0) (more e.1 (entries es))
+
+-- these keys and numbers as entries
+abbrev pub fields : List (ℕ × ℕ) → Tree
+fields [] = none
+fields (e ∷ es) = more (unsigned e.0) (more (unsigned e.1) (fields es))

@@ -1,0 +1,122 @@
+//! Reads a source up to the bytes that say how the run ends.
+
+ghost use Rattle.std.specs.Prelude.{◌≡◌, ℕ, ◌+◌, ◌≤◌, ◌<◌, ◌&&◌, ◌||◌, List, length, IfOk, OnOk, OnErr, false, true, is_err};
+ghost use Rattle.std.specs.Io.KnownBytes.{ReadConsumes, IsAtEnd};
+ghost use Rattle.cd_ports.specs.Counter.{Rose, next_count};
+ghost use Rattle.cd_ports.specs.Reading.{HasCause, gives_byte};
+ghost use Rattle.cd_top.specs.Gathered.{Took, Gathers, IsEnding};
+ghost use Rattle.cd_top.specs.Endings.{most_taken, StopsReading};
+ghost use Rattle.cd_top.specs.Pieces.{is_end, IsWithin};
+
+use crate::Status;
+use crate::intake::Intake;
+use crate::query::Query;
+use cd_name::List;
+use cd_ports::{Failed, Source};
+use std::alloc::{AllocError, Global};
+
+/// Bytes of the buffer that the source is asked to fill.
+const PIECE: usize = 65_536;
+
+/// At most so many bytes are taken: a header, 10,000 records of the greatest size, and one more.
+const MOST_TAKEN: u64 = 2_621_862_184;
+
+/// What was gathered of a capture, and how its run ends.
+#[derive(Drop)]
+pub struct Gathered {
+    /// `Done`, `BadCapture`, `ReadFault` or `NotYet`.
+    pub status: Status,
+    /// The queries that stand before the place that ended the run.
+    pub queries: List<Query>,
+}
+
+// A buffer of some bytes.
+fn buffer_of(alloc: Global, size: usize) -> Result<Vec<u8>, AllocError>
+    ensures { IfOk result (λ v. length v.items ≡ size) }
+{
+    vec![in alloc; 0u8; size]
+}
+
+// Reads into the front of a slice, at most some bytes.
+#[tactic(auto, using(std::proofs::lemmas::List::take_at, std::proofs::lemmas::List::take_min))]
+fn read_slice<S: Source>(src: &mut S, piece: &mut [u8], most: u64) -> Result<usize, Failed>
+    requires some { 0 < most }
+    requires room { 0 < length piece.old }
+    ensures bytes { ReadConsumes (S.means src.old).left (S.means src.new).left result piece.new }
+    ensures within { IsWithin result most (length piece.new) }
+    ensures cause { HasCause (S.means src.old).faults (S.means src.new).faults result }
+    ensures ended { (S.means src.new).ended ≡ is_end result }
+    ensures failed { (S.means src.new).failed ≡ ((S.means src.old).failed || is_err result) }
+    ensures calls { (S.means src.new).calls ≡ next_count (S.means src.old).calls }
+    ensures late { (S.means src.new).late ≡ ((S.means src.old).late || ((S.means src.old).failed && gives_byte result)) }
+{
+    let room = if most < piece.len() as u64 {
+        most as usize
+    } else {
+        piece.len()
+    };
+    src.read(&mut piece[..room])
+}
+
+// Reads into the front of a buffer, at most some bytes.
+fn read_front<S: Source>(src: &mut S, piece: &mut Vec<u8>, most: u64) -> Result<usize, Failed>
+    requires some { 0 < most }
+    requires room { 0 < length piece.old.items }
+    ensures bytes { ReadConsumes (S.means src.old).left (S.means src.new).left result piece.new.items }
+    ensures within { IsWithin result most (length piece.new.items) }
+    ensures same_room { length piece.new.items ≡ length piece.old.items }
+    ensures cause { HasCause (S.means src.old).faults (S.means src.new).faults result }
+    ensures ended { (S.means src.new).ended ≡ is_end result }
+    ensures failed { (S.means src.new).failed ≡ ((S.means src.old).failed || is_err result) }
+    ensures calls { (S.means src.new).calls ≡ next_count (S.means src.old).calls }
+    ensures late { (S.means src.new).late ≡ ((S.means src.old).late || ((S.means src.old).failed && gives_byte result)) }
+{
+    read_slice(src, piece.as_mut_slice(), most)
+}
+
+// The gathered queries under a status.
+fn ended_with(intake: Intake, status: Status) -> Gathered
+    ensures status { result.status ≡ status }
+    ensures queries { result.queries ≡ intake.queries }
+{
+    Gathered {
+        status,
+        queries: intake.into_queries(),
+    }
+}
+
+/// Reads the capture until its bytes say how the run ends, the source tells its end, or it fails. An `Err` says that no
+/// memory was found; the bytes taken by then are lost.
+pub fn gather<S: Source>(alloc: Global, src: &mut S) -> Result<Gathered, AllocError>
+    ensures ok { IfOk result (λ g. Took (S.means src.old) (S.means src.new) (λ taken. Gathers taken (S.means src.new).ended g × StopsReading taken)) }
+    ensures err { OnErr result (Took (S.means src.old) (S.means src.new) StopsReading) }
+    ensures read_fault { IfOk result (λ g. g.status ≡ Status.ReadFault → Rose (S.means src.old).faults (S.means src.new).faults) }
+    ensures done { IfOk result (λ g. g.status ≡ Status.Done → (S.means src.new).ended ≡ true) }
+    ensures at_end { OnOk result ((S.means src.new).ended ≡ true → IsAtEnd (S.means src.new).left) }
+    ensures ending { IfOk result (λ g. IsEnding g.status) }
+    ensures calls { (S.means src.new).calls ≤ (S.means src.old).calls + most_taken }
+    ensures late { (S.means src.old).failed ≡ false → (S.means src.new).late ≡ (S.means src.old).late }
+    ensures failed { IfOk result (λ g. (S.means src.old).failed ≡ false → (S.means src.new).failed ≡ true → g.status ≡ Status.ReadFault) }
+{
+    let mut intake = Intake::new(alloc);
+    let mut piece = buffer_of(alloc, PIECE)?;
+    let mut room = MOST_TAKEN;
+    'pieces: loop {
+        let count = match read_front(src, &mut piece, room) {
+            Err(Failed) => return Ok(ended_with(intake, Status::ReadFault)),
+            Ok(count) => count,
+        };
+        room -= count as u64;
+        intake.feed(&piece[..count])?;
+        let told_end = count == 0;
+        let said = intake.judge(told_end)?;
+        match said {
+            Some(status) => return Ok(ended_with(intake, status)),
+            None => {
+                if told_end {
+                    return Ok(ended_with(intake, Status::Done));
+                }
+            }
+        }
+    }
+}

@@ -1,0 +1,150 @@
+//! Takes the bytes of a capture, and keeps the queries of its packets.
+
+ghost use Rattle.std.specs.Prelude.{◌≡◌, ℕ, ◌+◌, ◌≤◌, ◌^◌, ◌++◌, [], List, length, take, IfOk, OnOk, OnErr, IsTrue, ◌↔◌};
+ghost use Rattle.cd_top.specs.Gathered.{Follows, Drains, Judges, served_query};
+ghost use Rattle.cd_top.specs.Endings.{is_other_format, status_of_end};
+ghost use Rattle.cd_top.specs.Reading.{fed_count};
+
+use crate::Status;
+use crate::capture_reader::{CaptureReader, Next};
+use crate::query::{Query, query_of};
+use cd_name::List;
+use cd_packet::{EndState, Packet, has_magic};
+use std::alloc::{AllocError, Global};
+
+/// So many packets can be compacted so far.
+const MOST_PACKETS: usize = 10_000;
+
+// The first four bytes of the formats that are not read yet, as little-endian numbers: pcap of microseconds and of
+// nanoseconds in big-endian order, of nanoseconds in little-endian order, and pcapng.
+const BIG_MICRO: u32 = 0xd4c3b2a1;
+
+const BIG_NANO: u32 = 0x4d3cb2a1;
+
+const LITTLE_NANO: u32 = 0xa1b23c4d;
+
+const PCAPNG: u32 = 0x0a0d0d0a;
+
+/// How many bytes choose the format of a capture.
+const MAGIC_SIZE: usize = 4;
+
+/// What is gathered of a capture that comes in pieces.
+#[derive(Drop)]
+pub struct Intake {
+    reader: CaptureReader,
+    /// The first four bytes, or as many as there are.
+    first: Vec<u8>,
+    /// The queries of the packets read so far, in their order.
+    queries: List<Query>,
+}
+
+// Whether these first bytes are those of a format that is not read yet.
+#[tactic(auto, unfolding(crate::specs::Endings::is_other_format))]
+fn is_other_format(first: &[u8]) -> bool
+    ensures { result ≡ is_other_format first.now }
+{
+    has_magic(first, BIG_MICRO)
+        || has_magic(first, LITTLE_NANO)
+        || has_magic(first, BIG_NANO)
+        || has_magic(first, PCAPNG)
+}
+
+// How the bytes end the run, where they do.
+fn status_of(end: EndState) -> Option<Status>
+    ensures { result ≡ status_of_end end }
+{
+    match end {
+        EndState::Whole => None,
+        EndState::Cut => None,
+        EndState::Bad(bad) => Some(Status::BadCapture(bad)),
+    }
+}
+
+impl Intake {
+    /// An intake that has taken nothing.
+    pub fn new(alloc: Global) -> Intake
+        ensures { Follows result [] }
+    {
+        Intake {
+            reader: CaptureReader::new(alloc),
+            first: Vec::new(alloc),
+            queries: List::from_vec(Vec::new(alloc)),
+        }
+    }
+
+    /// The queries of the packets read so far, in their order.
+    pub fn into_queries(self) -> List<Query>
+        ensures { result ≡ self.queries }
+    {
+        self.queries
+    }
+
+    // Keeps the first bytes of the capture.
+    fn keep_first(&mut self, piece: &[u8]) -> Result<(), AllocError>
+        ensures first { (fed : List ℕ) → self.old.first.items ≡ take 4 fed → OnOk result (self.new.first.items ≡ take 4 (fed ++ piece.now)) }
+        ensures same { OnOk result ((self.new.reader ≡ self.old.reader) × (self.new.queries ≡ self.old.queries)) }
+    {
+        let missing = MAGIC_SIZE.saturating_sub(self.first.len());
+        let count = missing.min(piece.len());
+        self.first.extend_from_slice(&piece[..count])
+    }
+
+    /// Takes the next piece of the capture, of which all pieces have at most 2^48 bytes. An `Err` of any call says that no
+    /// memory was found, and then the intake is of no more use.
+    pub fn feed(&mut self, piece: &[u8]) -> Result<(), AllocError>
+        requires { fed_count self.old.reader + length piece.now ≤ 2 ^ 48 }
+        ensures history { OnOk result ((fed : List ℕ) → Follows self.old fed → Follows self.new (fed ++ piece.now)) }
+        ensures count { OnOk result (fed_count self.new.reader ≡ fed_count self.old.reader + length piece.now) }
+    {
+        self.keep_first(piece)?;
+        self.reader.feed(piece)
+    }
+
+    // The query of the next packet, where it can be compacted.
+    fn served(&self, packet: &Packet) -> Option<Query>
+        ensures { result ≡ served_query (length self.now.queries) packet.now }
+    {
+        if self.queries.as_slice().len() < MOST_PACKETS {
+            query_of(packet)
+        } else {
+            None
+        }
+    }
+
+    // Takes the packets that are there whole, up to one that can't be compacted.
+    fn drain(&mut self) -> Result<Option<Status>, AllocError>
+        ensures history { IfOk result (λ said. (fed : List ℕ) → Follows self.old fed → Drains self.new fed said) }
+        ensures count { OnOk result (fed_count self.new.reader ≡ fed_count self.old.reader) }
+    {
+        'packets: loop {
+            let next = self.reader.next()?;
+            match next {
+                Next::End(end) => return Ok(status_of(end)),
+                Next::Packet(packet) => match self.served(&packet) {
+                    None => return Ok(Some(Status::NotYet { at: packet.at })),
+                    Some(query) => match self.queries.push(query) {
+                        Ok(()) => {}
+                        Err(_) => return Err(AllocError),
+                    },
+                },
+            }
+        }
+    }
+
+    /// What the bytes taken say of how the run ends, where they say it. Fewer than four say nothing before the end was told.
+    pub fn judge(&mut self, told_end: bool) -> Result<Option<Status>, AllocError>
+        ensures history { IfOk result (λ said. (fed : List ℕ) → Follows self.old fed → Judges told_end self.new fed said) }
+        ensures count { OnOk result (fed_count self.new.reader ≡ fed_count self.old.reader) }
+    {
+        if self.first.len() < MAGIC_SIZE {
+            if told_end {
+                return self.drain();
+            }
+            return Ok(None);
+        }
+        if is_other_format(&self.first) {
+            return Ok(Some(Status::NotYet { at: 0 }));
+        }
+        self.drain()
+    }
+}

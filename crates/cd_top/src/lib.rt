@@ -1,0 +1,34 @@
+//! The call that does all that the program does: `run_plain`.
+//!
+//! - A *run* takes the words of the command line, reads a capture from a source, writes its C-DNS file to a sink, and
+//!   answers a `Status`.
+//! - A *query* is one event of a capture: a packet whose DNS message is a header alone (`query`).
+//! - A *block* holds all queries, with its *tables*, in which each address and each *signature* stands once (`tables`).
+//! - The *file* is its beginning, the block where there is a query, and its end (`file_writing`), in CBOR (`spelling`).
+//!
+//! The way of the data: bytes, packets and their queries (`gathering`, `intake`, `capture_reader`, `record`), the block of
+//! the queries (`tables`, `intern`), its spelling (`block_writing`, `spelling`), the file (`file_writing`).
+#![tactic(auto)]
+
+mod block;
+mod block_writing;
+mod capture_reader;
+mod compaction;
+mod file_writing;
+mod gathering;
+mod intake;
+mod intern;
+mod query;
+mod record;
+mod run;
+mod spelling;
+mod status;
+mod tables;
+#[cfg(test)]
+mod tests;
+mod words;
+
+pub use run::{exit_code, run_plain};
+pub use status::Status;
+pub use tables::tables_hold_each_value_once;
+pub use words::words_leave_the_language_once;

@@ -1,0 +1,127 @@
+//! Spells the parts of a CBOR value, each with the shortest head (RFC 8949 3 and 4.2.1). An `Err` says that no memory was
+//! found.
+
+ghost use Rattle.std.specs.Prelude.{◌≡◌, ◌<◌, ◌∷◌, ◌++◌, length, OnOk};
+ghost use Rattle.cd_top.specs.Tree.{be_bytes16, be_bytes32, be_bytes64, head_of, cbor_map, fields, spelling};
+
+use std::alloc::AllocError;
+
+const UNSIGNED: u8 = 0;
+
+const BYTES: u8 = 2;
+
+const ARRAY: u8 = 4;
+
+const MAP: u8 = 5;
+
+fn push_head16(out: &mut Vec<u8>, first: u8, n: u16) -> Result<(), AllocError>
+    ensures { OnOk result (out.new.items ≡ out.old.items ++ first ∷ be_bytes16 n) }
+{
+    out.extend_from_slice(&[first, (n / 0x100) as u8, (n % 0x100) as u8])
+}
+
+fn push_head32(out: &mut Vec<u8>, first: u8, n: u32) -> Result<(), AllocError>
+    ensures { OnOk result (out.new.items ≡ out.old.items ++ first ∷ be_bytes32 n) }
+{
+    out.extend_from_slice(&[
+        first,
+        (n / 0x100_0000) as u8,
+        (n / 0x1_0000 % 0x100) as u8,
+        (n / 0x100 % 0x100) as u8,
+        (n % 0x100) as u8,
+    ])
+}
+
+fn push_head64(out: &mut Vec<u8>, first: u8, n: u64) -> Result<(), AllocError>
+    ensures { OnOk result (out.new.items ≡ out.old.items ++ first ∷ be_bytes64 n) }
+{
+    let high = (n / 0x1_0000_0000) as u32;
+    let low = (n % 0x1_0000_0000) as u32;
+    out.extend_from_slice(&[
+        first,
+        (high / 0x100_0000) as u8,
+        (high / 0x1_0000 % 0x100) as u8,
+        (high / 0x100 % 0x100) as u8,
+        (high % 0x100) as u8,
+        (low / 0x100_0000) as u8,
+        (low / 0x1_0000 % 0x100) as u8,
+        (low / 0x100 % 0x100) as u8,
+        (low % 0x100) as u8,
+    ])
+}
+
+/// Appends the shortest head of a major type from 0 to 7 and a number (RFC 8949 3). An `Err` may leave a part of it.
+#[tactic(auto, unfolding(crate::specs::Tree::head_of))]
+pub fn push_head(out: &mut Vec<u8>, major: u8, n: u64) -> Result<(), AllocError>
+    requires { major < 8 }
+    ensures { OnOk result (out.new.items ≡ out.old.items ++ head_of major n) }
+{
+    let kind = major * 32;
+    if n < 24 {
+        out.push(kind + n as u8)?;
+        return Ok(());
+    }
+    if n < 0x100 {
+        return out.extend_from_slice(&[kind + 24, n as u8]);
+    }
+    if n < 0x1_0000 {
+        return push_head16(out, kind + 25, n as u16);
+    }
+    if n < 0x1_0000_0000 {
+        return push_head32(out, kind + 26, n as u32);
+    }
+    push_head64(out, kind + 27, n)
+}
+
+/// Appends a number. An `Err` may leave a part of it, as everywhere in this module.
+pub fn push_unsigned(out: &mut Vec<u8>, n: u64) -> Result<(), AllocError>
+    ensures { OnOk result (out.new.items ≡ out.old.items ++ head_of 0 n) }
+{
+    push_head(out, UNSIGNED, n)
+}
+
+/// Appends the head of an array of so many elements.
+pub fn push_array(out: &mut Vec<u8>, count: u64) -> Result<(), AllocError>
+    ensures { OnOk result (out.new.items ≡ out.old.items ++ head_of 4 count) }
+{
+    push_head(out, ARRAY, count)
+}
+
+/// Appends the head of a map of so many entries.
+pub fn push_map(out: &mut Vec<u8>, count: u64) -> Result<(), AllocError>
+    ensures { OnOk result (out.new.items ≡ out.old.items ++ head_of 5 count) }
+{
+    push_head(out, MAP, count)
+}
+
+/// Appends a key and its number.
+#[tactic(auto, using(std::proofs::lemmas::List::append_assoc))]
+fn push_field(out: &mut Vec<u8>, key: u64, n: u64) -> Result<(), AllocError>
+    ensures { OnOk result (out.new.items ≡ out.old.items ++ (head_of 0 key ++ head_of 0 n)) }
+{
+    push_unsigned(out, key)?;
+    push_unsigned(out, n)
+}
+
+/// Appends a map of keys and numbers.
+pub fn push_fields(out: &mut Vec<u8>, pairs: &[(u64, u64)]) -> Result<(), AllocError>
+    ensures { OnOk result (out.new.items ≡ out.old.items ++ spelling (cbor_map (fields pairs.now))) }
+{
+    push_map(out, pairs.len() as u64)?;
+    for pair in pairs {
+        push_field(out, pair.0, pair.1)?;
+    }
+    Ok(())
+}
+
+/// Appends a string of bytes.
+#[tactic(auto, using(std::proofs::lemmas::List::append_assoc))]
+pub fn push_bytes(out: &mut Vec<u8>, content: &[u8]) -> Result<(), AllocError>
+    ensures { OnOk result (out.new.items ≡ out.old.items ++ (head_of 2 (length content.now) ++ content.now)) }
+{
+    push_head(out, BYTES, content.len() as u64)?;
+    out.extend_from_slice(content)
+}
+
+#[cfg(test)]
+mod tests;

@@ -1,0 +1,7 @@
+//! Runs over memory: what each answers, and what it writes.
+
+mod captures;
+mod faults;
+mod many;
+mod sample;
+mod words;
