@@ -1,0 +1,5 @@
+pub mod Repeats
+pub mod Binds
+pub mod RdataShapes
+pub mod Valid
+pub mod OneAnswer

@@ -1,0 +1,6 @@
+pub mod Readings
+pub mod Shapes
+pub mod Messages
+pub mod Valid
+pub mod Weights
+pub mod MessageLaws

@@ -1,0 +1,139 @@
+-- DNS messages (RFC 1035 section 4, RFC 6891 section 6), read from left to right: the first rule that is broken is the answer.
+use Rattle.std.specs.Prelude.{◌≡◌, ℕ, ◌+◌, ◌-◌, ◌*◌, nat_lt, nat_eq, Bool, true, false, ◌&&◌, List, [], ◌++◌, length, take, drop, slice_index, if◌then◌else◌, Option, Some, None, Result, Ok, Err}
+use Rattle.std.specs.List.{concat}
+use Rattle.cd_name.specs.declared.fault.NameWhy.{NameWhy}
+use Rattle.cd_name.specs.declared.fault.NameWhy.TheVariants as name
+use Rattle.cd_name.specs.Names.{name_at, run_is_cut}
+use Rattle.cd_message.specs.declared.message.MsgWhy.{MsgWhy}
+use Rattle.cd_message.specs.declared.message.MsgWhy.TheVariants.{Short, Label, Pointer, LongName, Shape, Opt}
+use Rattle.cd_message.specs.declared.message.Question.{Question}
+use Rattle.cd_message.specs.declared.message.Rr.{Rr}
+use Rattle.cd_message.specs.declared.message.Message.{Message}
+use Rattle.cd_message.specs.declared.place.Place.{Place}
+use Rattle.cd_message.specs.declared.shape.Shape as kind
+use Rattle.cd_message.specs.declared.message.TheConstants.{OPT}
+use Rattle.cd_message.specs.Readings.{◌>>=◌, repeat}
+use Rattle.cd_message.specs.Shapes.{shape_of}
+
+-- the big-endian number of the two bytes at an offset
+abbrev pub word : List ℕ → ℕ → ℕ
+word payload at = slice_index payload at * 256 + slice_index payload (at + 1)
+
+-- so many bytes from an offset on
+abbrev pub bytes_at : List ℕ → ℕ → ℕ → List ℕ
+bytes_at payload at count = take count (drop at payload)
+
+-- a rule of names, as a rule of messages
+abbrev pub why_of : NameWhy → MsgWhy
+why_of name.Short = Short
+why_of name.Label = Label
+why_of name.Pointer = Pointer
+why_of name.LongName = LongName
+
+-- the same where the bytes end with the RDATA: a name that wants more of them does not fill its shape
+abbrev pub rdata_why_of : NameWhy → MsgWhy
+rdata_why_of name.Short = Shape
+rdata_why_of name.Label = Label
+rdata_why_of name.Pointer = Pointer
+rdata_why_of name.LongName = LongName
+
+-- a name and the offset behind it, or the rule of messages that is broken
+abbrev pub name_reading : (NameWhy → MsgWhy) → Result (List ℕ × ℕ) NameWhy → Result (List ℕ × ℕ) MsgWhy
+name_reading why_of (Ok x) = Ok x
+name_reading why_of (Err why) = Err (why_of why)
+
+-- the name at an offset, and the offset behind it
+unfoldable pub name_in : List ℕ → ℕ → Result (List ℕ × ℕ) MsgWhy
+name_in payload at = name_reading why_of (name_at payload at)
+
+-- the question at an offset, and the offset behind it: a name, a type and a class (RFC 1035 4.1.2)
+unfoldable pub question_at : List ℕ → ℕ → Result (Question × ℕ) MsgWhy
+question_at payload at = do
+  name ← name_in payload at
+  if nat_lt (length payload) (name.1 + 4) then Err Short
+      else Ok (record { name = name.0; rtype = word payload name.1; rclass = word payload (name.1 + 2) }, name.1 + 4)
+
+-- The name at an offset in RDATA that ends at `end`: its first run stands within the RDATA, the runs that its pointers lead to stand anywhere.
+unfoldable pub rdata_name : List ℕ → ℕ → ℕ → Result (List ℕ × ℕ) MsgWhy
+rdata_name payload end at =
+    if run_is_cut (take end payload) at then name_reading rdata_why_of (name_at (take end payload) at) else name_in payload at
+
+-- the bytes of so many names, one behind the other, without pointers, and the offset behind them
+unfoldable pub rdata_names : List ℕ → ℕ → ℕ → ℕ → Result (List ℕ × ℕ) MsgWhy
+rdata_names payload end count at = do
+  names ← repeat (rdata_name payload end) count at
+  Ok (concat names.0, names.1)
+
+-- RDATA with no shape is any bytes; else it is bytes, names and bytes, and they fill it
+unfoldable pub rdata_of_shape : Option kind.Shape → List ℕ → ℕ → ℕ → Result (List ℕ) MsgWhy
+rdata_of_shape None payload at end = Ok (bytes_at payload at (end - at))
+rdata_of_shape (Some s) payload at end =
+    if nat_lt end (at + s.before) then Err Shape
+    else (do
+      names ← rdata_names payload end s.names (at + s.before)
+      if nat_eq (names.1 + s.behind) end
+          then Ok (bytes_at payload at s.before ++ names.0 ++ bytes_at payload names.1 s.behind)
+          else Err Shape)
+
+-- the RDATA of a type between two offsets; it may be empty whatever its type
+unfoldable pub rdata_at : ℕ → List ℕ → ℕ → ℕ → Result (List ℕ) MsgWhy
+rdata_at rtype payload at end = if nat_eq at end then Ok [] else rdata_of_shape (shape_of rtype) payload at end
+
+-- An OPT record stands where one is allowed, and its owner is the root, which alone has one byte (RFC 6891 6.1.1).
+abbrev pub breaks_opt_rule : Bool → ℕ → List ℕ → Bool
+breaks_opt_rule opt_allowed rtype owner = nat_eq rtype OPT && (if opt_allowed then nat_lt 1 (length owner) else true)
+
+-- behind an OPT record no second one is allowed
+abbrev pub place_behind : Bool → ℕ → ℕ → Place
+place_behind opt_allowed rtype offset = record { offset = offset; opt_allowed = if nat_eq rtype OPT then false else opt_allowed }
+
+-- The record whose owner ends at an offset, and the place behind it: type, class, TTL, the length of the RDATA and the RDATA (RFC 1035 4.1.3).
+unfoldable pub record_behind_owner : List ℕ → Bool → List ℕ → ℕ → Result (Rr × Place) MsgWhy
+record_behind_owner payload opt_allowed owner at =
+    let rtype : ℕ = word payload at in
+    let start : ℕ = at + 10 in
+    let end : ℕ = start + word payload (at + 8) in
+    if nat_lt (length payload) start then Err Short
+    else (if breaks_opt_rule opt_allowed rtype owner then Err Opt
+    else (if nat_lt (length payload) end then Err Short
+    else (do
+      rdata ← rdata_at rtype payload start end
+      Ok (
+        record { owner = owner; rtype = rtype; rclass = word payload (at + 2); ttl = word payload (at + 4) * 65536 + word payload (at + 6); rdata = rdata },
+        place_behind opt_allowed rtype end,
+      ))))
+
+-- the record at a place, and the place behind it
+unfoldable pub record_at : List ℕ → Place → Result (Rr × Place) MsgWhy
+record_at payload place = do
+  owner ← name_in payload place.offset
+  record_behind_owner payload place.opt_allowed owner.0 owner.1
+
+-- the records of a section from an offset on, where an OPT record is allowed or not, and the offset behind them
+abbrev pub section_at : List ℕ → ℕ → Bool → ℕ → Result (List Rr × ℕ) MsgWhy
+section_at payload count opt_allowed at = do
+  records ← repeat (record_at payload) count (record { offset = at; opt_allowed = opt_allowed })
+  Ok (records.0, records.1.offset)
+
+-- The message that a payload spells and the number of bytes that it takes, or the first rule that is broken: a header of twelve bytes
+-- with ID, bits and four counts, and so many questions, answers, authority and additional records (RFC 1035 4.1).
+unfoldable pub message_of : List ℕ → Result (Message × ℕ) MsgWhy
+message_of payload =
+    if nat_lt (length payload) 12 then Err Short
+    else (do
+      questions ← repeat (question_at payload) (word payload 4) 12
+      answers ← section_at payload (word payload 6) false questions.1
+      authority ← section_at payload (word payload 8) false answers.1
+      additional ← section_at payload (word payload 10) true authority.1
+      Ok (
+        record { id = word payload 0; bits = word payload 2; questions = questions.0; answers = answers.0; authority = authority.0; additional = additional.0 },
+        additional.1,
+      ))
+
+-- the payload spells the message in so many bytes, and other bytes may follow
+abbrev pub Spells : List ℕ → Message → ℕ → Type 0
+Spells payload message used = message_of payload ≡ Ok (message, used)
+
+-- the payload spells no message, and this rule is the first that it breaks
+abbrev pub Breaks : List ℕ → MsgWhy → Type 0
+Breaks payload why = message_of payload ≡ Err why

@@ -1,0 +1,63 @@
+//! Reads the numbers, names and questions of a message.
+
+ghost use Rattle.std.specs.Prelude.{◌≡◌, ◌+◌, ◌<◌, ◌≤◌, length, IfOk};
+ghost use Rattle.cd_message.specs.Messages;
+ghost use Rattle.cd_message.specs.Readings.{Gives};
+
+use crate::message::{MsgWhy, ParseFault, Question};
+use cd_name::{Name, NameFault, NameWhy, read_name};
+use std::alloc::Global;
+
+/// The big-endian number of the two bytes at an offset.
+pub(crate) fn word(payload: &[u8], at: usize) -> u16
+    requires { at + 2 ≤ length payload.now }
+    ensures { result ≡ Messages.word payload.now at }
+{
+    u16::from(payload[at]) * 256 + u16::from(payload[at + 1])
+}
+
+/// A rule of names, as a rule of messages.
+pub(crate) fn why_of(why: NameWhy) -> MsgWhy
+    ensures { result ≡ Messages.why_of why }
+{
+    match why {
+        NameWhy::Short => MsgWhy::Short,
+        NameWhy::Label => MsgWhy::Label,
+        NameWhy::Pointer => MsgWhy::Pointer,
+        NameWhy::LongName => MsgWhy::LongName,
+    }
+}
+
+/// The name at an offset, and the offset behind it.
+#[tactic(auto, unfolding(crate::specs::Messages::name_in))]
+pub(crate) fn name_in(alloc: Global, payload: &[u8], at: usize) -> Result<(Name, usize), ParseFault>
+    ensures read { Gives (λ x. (x.0, x.1)) result (Messages.name_in payload.now at) }
+    ensures within { IfOk result (λ x. (at < x.1) × (x.1 ≤ length payload.now)) }
+{
+    match read_name(alloc, payload, at) {
+        Ok((name, next)) => Ok((name, next)),
+        Err(NameFault::Bad(why)) => Err(ParseFault::Malformed(why_of(why))),
+        Err(NameFault::NoMemory) => Err(ParseFault::NoMemory),
+    }
+}
+
+/// The question at an offset, and the offset behind it.
+#[tactic(auto, unfolding(crate::specs::Messages::question_at))]
+pub(crate) fn question_at(
+    alloc: Global,
+    payload: &[u8],
+    at: usize,
+) -> Result<(Question, usize), ParseFault>
+    ensures { Gives (λ x. (x.0, x.1)) result (Messages.question_at payload.now at) }
+{
+    let (name, next) = name_in(alloc, payload, at)?;
+    if payload.len() - next < 4 {
+        return Err(ParseFault::Malformed(MsgWhy::Short));
+    }
+    let question = Question {
+        name,
+        rtype: word(payload, next),
+        rclass: word(payload, next + 2),
+    };
+    Ok((question, next + 4))
+}

@@ -1,0 +1,28 @@
+//! DNS messages, read from the bytes of a payload (RFC 1035 section 4, RFC 6891 section 6).
+//!
+//! - A *question* is a name, a type and a class. A *record* is an owner, a type, a class, a TTL and RDATA.
+//! - A *section* is the records of one part of a message: answers, authority or additional.
+//! - RDATA of some types has a *shape*: bytes, names and bytes. It is kept with its names uncompressed.
+//! - An *OPT* record carries the fields of EDNS; it stands in the additional section alone, once at most.
+//! - A message is *valid* where its names are names, its sections and RDATA are small enough, its RDATA keeps the shapes of its types, and
+//!   an OPT record stands in the additional section alone, once at most, and is the root's.
+//!
+//! Offsets and lengths are bytes.
+#![tactic(auto)]
+
+mod field;
+mod law;
+mod message;
+mod message_reading;
+mod place;
+mod rdata;
+mod record;
+mod shape;
+#[cfg(test)]
+mod tests;
+mod weighing;
+
+pub use law::{each_payload_has_one_answer, messages_are_valid, rdata_keeps_its_shape};
+pub use message::{Message, MsgWhy, OPT, ParseFault, Parsed, Question, Rr};
+pub use message_reading::parse;
+pub use weighing::weight;

@@ -1,0 +1,81 @@
+//! Reads a record of a message.
+
+ghost use Rattle.std.specs.Prelude.{◌≡◌, ◌≤◌, length};
+ghost use Rattle.cd_message.specs.Messages;
+ghost use Rattle.cd_message.specs.Messages.{breaks_opt_rule};
+ghost use Rattle.cd_message.specs.Readings.{Gives};
+
+use crate::field::{name_in, word};
+use crate::message::{MsgWhy, OPT, ParseFault, Rr};
+use crate::place::Place;
+use crate::rdata::rdata_at;
+use cd_name::Name;
+use std::alloc::Global;
+
+/// Whether a record of a type and an owner is an OPT record where none is allowed, or not the root's.
+fn breaks_opt_rule(opt_allowed: bool, rtype: u16, owner: &Name) -> bool
+    ensures { result ≡ breaks_opt_rule opt_allowed rtype owner.now }
+{
+    rtype == OPT && (!opt_allowed || owner.as_slice().len() > 1)
+}
+
+/// The place behind a record of a type.
+fn place_behind(opt_allowed: bool, rtype: u16, offset: usize) -> Place
+    ensures { result ≡ Messages.place_behind opt_allowed rtype offset }
+{
+    Place {
+        offset,
+        opt_allowed: rtype != OPT && opt_allowed,
+    }
+}
+
+/// The record whose owner ends at an offset, and the place behind it.
+#[tactic(auto, unfolding(crate::specs::Messages::record_behind_owner))]
+fn record_behind_owner(
+    alloc: Global,
+    payload: &[u8],
+    opt_allowed: bool,
+    owner: Name,
+    at: usize,
+) -> Result<(Rr, Place), ParseFault>
+    requires { at ≤ length payload.now }
+    ensures { Gives (λ x. (x.0, x.1)) result (Messages.record_behind_owner payload.now opt_allowed owner at) }
+{
+    if payload.len() - at < 10 {
+        return Err(ParseFault::Malformed(MsgWhy::Short));
+    }
+    let rtype = word(payload, at);
+    if breaks_opt_rule(opt_allowed, rtype, &owner) {
+        return Err(ParseFault::Malformed(MsgWhy::Opt));
+    }
+    let rclass = word(payload, at + 2);
+    let ttl = u32::from(word(payload, at + 4)) * 65536 + u32::from(word(payload, at + 6));
+    let start = at + 10;
+    let size = usize::from(word(payload, at + 8));
+    if payload.len() - start < size {
+        return Err(ParseFault::Malformed(MsgWhy::Short));
+    }
+    let end = start + size;
+    let rdata = rdata_at(alloc, rtype, payload, start, end)?;
+    let record = Rr {
+        owner,
+        rtype,
+        rclass,
+        ttl,
+        rdata,
+    };
+    Ok((record, place_behind(opt_allowed, rtype, end)))
+}
+
+/// The record at a place, and the place behind it.
+#[tactic(auto, unfolding(crate::specs::Messages::record_at))]
+pub(crate) fn record_at(
+    alloc: Global,
+    payload: &[u8],
+    place: Place,
+) -> Result<(Rr, Place), ParseFault>
+    ensures { Gives (λ x. (x.0, x.1)) result (Messages.record_at payload.now place) }
+{
+    let (owner, next) = name_in(alloc, payload, place.offset)?;
+    record_behind_owner(alloc, payload, place.opt_allowed, owner, next)
+}
