@@ -1,0 +1,13 @@
+pub mod Unique
+pub mod Joining
+pub mod Finding
+pub mod Keeping
+pub mod Growing
+pub mod Unpaired
+pub mod Matcher
+pub mod Rising
+pub mod OpenWindows
+pub mod Settling
+pub mod Records
+pub mod Sets
+pub mod AlikeWeights
