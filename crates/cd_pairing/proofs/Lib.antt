@@ -3,11 +3,13 @@ pub mod Joining
 pub mod Finding
 pub mod Keeping
 pub mod Growing
-pub mod Unpaired
-pub mod Matcher
 pub mod Rising
 pub mod OpenWindows
 pub mod Settling
 pub mod Records
 pub mod Sets
 pub mod AlikeWeights
+pub mod Waiting
+pub mod Meeting
+pub mod Stamps
+pub mod Matcher

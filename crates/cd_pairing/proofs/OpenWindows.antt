@@ -1,12 +1,11 @@
 -- Windows: what is compatible is in a window, and what is in a window was in it before.
-use Rattle.std.proofs.Common.{◌≡◌, ℕ, zero, suc, ◌+◌, ◌-◌, ◌<◌, ◌≤◌, Bool, true, false, not, ◌||◌, ltb, max, List, [], ◌∷◌, ◌++◌, length, take, drop, Option, Some, None, refl, ap, sym, ◌∙◌, subst, arith, inl, inr, length-append, cond}
+use Rattle.std.proofs.Common.{◌≡◌, ℕ, ◌+◌, ◌-◌, ◌<◌, ◌≤◌, true, false, max, List, [], ◌∷◌, ◌++◌, length, ap, sym, subst, arith, inl, inr, length-append}
 use Rattle.std.proofs.lemmas.Bool.{cases_Bool, and_parts, and_from, ltb-true, leb-true, lt-ltb, le-leb}
 use Rattle.std.proofs.lemmas.List.{length_push}
 use Rattle.cd_pairing.specs.declared.keyed.TheConstants.{LEAST_WEIGHT}
 use Rattle.cd_pairing.specs.declared.keyed.Windows.{Windows}
 use Rattle.cd_pairing.specs.Events.{EventView, event_at, clock, weight_sum, are_opposite}
-use Rattle.cd_pairing.specs.Matching.{partner}
-use Rattle.cd_pairing.specs.Pairing.{StampedEvent, stamped_event, may_pair, is_in_window, are_compatible, identifiers_agree, timeout, IsPairing}
+use Rattle.cd_pairing.specs.Pairing.{StampedEvent, stamped_event, may_pair, is_in_window, are_compatible, identifiers_agree, timeout}
 use Rattle.cd_pairing.specs.Settling.{is_window_open, AreHeavy, OneMoreJoinsOpen, LaterWaitLonger}
 use Rattle.cd_pairing.proofs.Growing.{stamped-append, grown}
 use Rattle.cd_pairing.proofs.Rising.{clock_next, weights_next, clock_rises, weights_rise}

@@ -1,10 +1,9 @@
 -- What is released stays.
-use Rattle.std.proofs.Common.{◌≡◌, ℕ, zero, suc, ◌+◌, ◌-◌, ◌<◌, ◌≤◌, Bool, true, false, not, ◌||◌, ltb, max, List, [], ◌∷◌, ◌++◌, length, take, drop, Option, Some, None, refl, ap, sym, ◌∙◌, subst, arith, inl, inr, length-append, cond}
-use Rattle.std.proofs.lemmas.Bool.{cases_lt, cases_Bool, true≢false}
+use Rattle.std.proofs.Common.{◌≡◌, ℕ, zero, suc, ◌+◌, ◌<◌, ◌≤◌, Bool, true, false, ltb, List, [], ◌∷◌, ◌++◌, length, take, drop, Option, Some, None, refl, ap, sym, ◌∙◌, subst, arith, inl, inr, length-append, cond}
+use Rattle.std.proofs.lemmas.Bool.{cases_lt, true≢false}
 use Rattle.std.proofs.lemmas.List.{take-append-drop, ext_get_or, get_or-take, length-take-le, take-take}
 use Rattle.cd_pairing.specs.declared.keyed.Windows.{Windows}
 use Rattle.cd_pairing.specs.Events.{EventView}
-use Rattle.cd_pairing.specs.Matching.{partner}
 use Rattle.cd_pairing.specs.Pairing.{IsPairing}
 use Rattle.cd_pairing.specs.Settling.{is_settled, settled_count_from, settled_count, AreHeavy}
 use Rattle.cd_pairing.specs.Records.{Record, pair, single, records_from, BeginsWith, ReleasedStay}

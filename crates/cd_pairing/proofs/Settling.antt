@@ -1,5 +1,5 @@
 -- What is settled stays.
-use Rattle.std.proofs.Common.{◌≡◌, ℕ, zero, suc, ◌+◌, ◌-◌, ◌<◌, ◌≤◌, Bool, true, false, not, ◌||◌, ltb, max, List, [], ◌∷◌, ◌++◌, length, take, drop, Option, Some, None, refl, ap, sym, ◌∙◌, subst, arith, inl, inr, length-append, cond}
+use Rattle.std.proofs.Common.{◌≡◌, ℕ, ◌<◌, Bool, true, false, not, ◌||◌, List, ◌++◌, length, take, Option, Some, None, refl, ap, sym, ◌∙◌, subst, arith, inl, inr, length-append}
 use Rattle.std.specs.Prelude.{is_some}
 use Rattle.std.proofs.lemmas.Bool.{cases_lt, true≢false}
 use Rattle.std.proofs.lemmas.List.{take_at}
@@ -8,7 +8,7 @@ use Rattle.cd_pairing.specs.declared.keyed.Side.TheVariants.{Query, Response, Ne
 use Rattle.cd_pairing.specs.declared.keyed.Windows.{Windows}
 use Rattle.cd_pairing.specs.Events.{EventView, event_at, are_opposite}
 use Rattle.cd_pairing.specs.Matching.{partner}
-use Rattle.cd_pairing.specs.Pairing.{StampedEvent, stamped_event, are_compatible, IsPairing}
+use Rattle.cd_pairing.specs.Pairing.{StampedEvent, are_compatible, IsPairing}
 use Rattle.cd_pairing.specs.Laws.{partner_below, pairs_below}
 use Rattle.cd_pairing.specs.Settling.{is_window_open, is_settled, is_neither, AreHeavy, SettledKeepPartners, SettledStaySettled}
 use Rattle.cd_pairing.proofs.Unique.{partner_within, unique}

@@ -7,7 +7,8 @@ use Rattle.cd_pairing.specs.Pairing.{IsPairing, are_compatible}
 
 -- no list of events has two pairings
 abbrev pub PairingsAreUnique : Type 0
-PairingsAreUnique = (windows : Windows) (events : List EventView) (p q : List (Option ℕ)) → IsPairing windows events p → IsPairing windows events q → p ≡ q
+PairingsAreUnique = (windows : Windows) (events : List EventView) (p q : List (Option ℕ)) → IsPairing windows events p →
+    IsPairing windows events q → p ≡ q
 
 -- each list of events has a pairing
 abbrev pub EachListHasPairing : Type 0
@@ -43,4 +44,5 @@ pub record JoinsEarliest (windows : Windows) (events : List EventView) (e : Even
 
 -- what one more event changes
 abbrev pub OneMoreJoins : Type 0
-OneMoreJoins = (windows : Windows) (events : List EventView) (e : EventView) (p : List (Option ℕ)) → IsPairing windows events p → JoinsEarliest windows events e p
+OneMoreJoins = (windows : Windows) (events : List EventView) (e : EventView) (p : List (Option ℕ)) →
+    IsPairing windows events p → JoinsEarliest windows events e p

@@ -30,4 +30,5 @@ pub record HasTheOneSet (together : ℕ → ℕ → Bool) (count : ℕ) (partner
 
 -- the pairs of a matching are the one set without a blocking pair
 abbrev pub MatchingsAreSets : Type 0
-MatchingsAreSets = (together : ℕ → ℕ → Bool) (count : ℕ) (partners : List (Option ℕ)) → IsMatching together count partners → HasTheOneSet together count partners
+MatchingsAreSets = (together : ℕ → ℕ → Bool) (count : ℕ) (partners : List (Option ℕ)) →
+    IsMatching together count partners → HasTheOneSet together count partners

@@ -40,20 +40,24 @@ settled_count windows events partners = settled_count_from (is_settled windows e
 
 -- what is settled has the partner that it has in the pairing of any longer list
 abbrev pub SettledKeepPartners : Type 0
-SettledKeepPartners = (windows : Windows) (events more : List EventView) (p q : List (Option ℕ)) → AreHeavy (events ++ more) →
-    IsPairing windows events p → IsPairing windows (events ++ more) q → (i : ℕ) → i < length events → is_settled windows events p i ≡ true → partner q i ≡ partner p i
+SettledKeepPartners = (windows : Windows) (events more : List EventView) (p q : List (Option ℕ)) →
+    AreHeavy (events ++ more) →
+    IsPairing windows events p → IsPairing windows (events ++ more) q → (i : ℕ) → i < length events →
+    is_settled windows events p i ≡ true → partner q i ≡ partner p i
 
 -- what is settled is settled in any longer list
 abbrev pub SettledStaySettled : Type 0
 SettledStaySettled = (windows : Windows) (events more : List EventView) (p q : List (Option ℕ)) → AreHeavy (events ++ more) →
-    IsPairing windows events p → IsPairing windows (events ++ more) q → (i : ℕ) → i < length events → is_settled windows events p i ≡ true → is_settled windows (events ++ more) q i ≡ true
+    IsPairing windows events p → IsPairing windows (events ++ more) q → (i : ℕ) → i < length events →
+    is_settled windows events p i ≡ true → is_settled windows (events ++ more) q i ≡ true
 
 -- the earliest position that is unpaired and compatible with the next event, of those whose windows are open
 pub record IsEarliestOpen (windows : Windows) (events : List EventView) (e : EventView) (p : List (Option ℕ)) (i : ℕ) : Type 0 where
   pub within : i < length events
   pub free : partner p i ≡ None
   pub fits : are_compatible windows (events ++ e ∷ []) i (length events) ≡ true
-  pub earliest : (k : ℕ) → k < i → partner p k ≡ None → is_window_open windows events k ≡ true → are_compatible windows (events ++ e ∷ []) k (length events) ≡ false
+  pub earliest : (k : ℕ) → k < i → partner p k ≡ None → is_window_open windows events k ≡ true →
+      are_compatible windows (events ++ e ∷ []) k (length events) ≡ false
 
 -- one more event joins the earliest that fits of those whose windows are open, and stays alone where there is none
 pub record JoinsEarliestOpen (windows : Windows) (events : List EventView) (e : EventView) (p : List (Option ℕ)) : Type 0 where
@@ -64,9 +68,12 @@ pub record JoinsEarliestOpen (windows : Windows) (events : List EventView) (e : 
 
 -- what one more event changes can be found among the open windows
 abbrev pub OneMoreJoinsOpen : Type 0
-OneMoreJoinsOpen = (windows : Windows) (events : List EventView) (e : EventView) (p : List (Option ℕ)) → AreHeavy (events ++ e ∷ []) → IsPairing windows events p → JoinsEarliestOpen windows events e p
+OneMoreJoinsOpen = (windows : Windows) (events : List EventView) (e : EventView) (p : List (Option ℕ)) →
+    AreHeavy (events ++ e ∷ []) → IsPairing windows events p → JoinsEarliestOpen windows events e p
 
 -- of two events of one side that wait, the later one waits longer
 abbrev pub LaterWaitLonger : Type 0
-LaterWaitLonger = (windows : Windows) (events : List EventView) (i k n : ℕ) → i < k → k ≤ n → n < length events → (event_at events i).side ≡ (event_at events k).side →
-    is_in_window windows (stamped_event events i) (stamped_event events n) ≡ true → is_in_window windows (stamped_event events k) (stamped_event events n) ≡ true
+LaterWaitLonger = (windows : Windows) (events : List EventView) (i k n : ℕ) → i < k → k ≤ n → n < length events →
+    (event_at events i).side ≡ (event_at events k).side →
+    is_in_window windows (stamped_event events i) (stamped_event events n) ≡ true →
+    is_in_window windows (stamped_event events k) (stamped_event events n) ≡ true

@@ -22,6 +22,7 @@
 
 mod keyed;
 mod law;
+mod queue;
 mod stamp;
 #[cfg(test)]
 mod tests;

@@ -1,11 +1,11 @@
-ghost use Rattle.std.specs.Prelude.{◌≡◌, ◌<◌, length, map, All, MatchOption};
+ghost use Rattle.std.specs.Prelude.{◌≡◌};
 ghost use Rattle.cd_pairing.specs.Events.{are_opposite, secondaries_agree};
 ghost use Rattle.cd_pairing.specs.Pairing.{timeout, identifiers_agree, is_in_window, may_pair};
 ghost use Rattle.cd_pairing.specs.Waiting.{with_stamp};
 
 use crate::{Keyed, Side, Windows};
 
-/// A position, with the clock and the sum of the weights there.
+// A position, with the clock and the sum of the weights there.
 #[derive(Clone, Copy, Debug)]
 pub(crate) struct Stamp {
     pub(crate) place: usize,
@@ -53,7 +53,7 @@ fn identifiers_agree<E: Keyed>(a: &E, b: &E) -> bool
 
 // Whether what comes now comes while the other still waits.
 #[tactic(auto, unfolding(crate::specs::Pairing::is_in_window))]
-fn is_in_window<E: Keyed>(
+pub(crate) fn is_in_window<E: Keyed>(
     windows: &Windows,
     waiting: &E,
     then: Stamp,

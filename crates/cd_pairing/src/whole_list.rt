@@ -1,74 +1,96 @@
-ghost use Rattle.std.specs.Prelude.{◌≡◌, ◌<◌, ◌≤◌, ◌+◌, ◌^◌, ◌∷◌, [], ◌++◌, length, map, MatchOption, OnOk, IfOk, EachIndex, slice_index_or, slice_set, Some, None, take, max};
+ghost use Rattle.std.specs.Prelude.{◌≡◌, ◌<◌, ◌+◌, ◌^◌, ◌∷◌, [], ◌++◌, length, map, OnOk, IfOk, slice_set, Some, None, take, max, false};
 ghost use Rattle.std.specs.List.{fold, sum_by, remove};
+ghost use Rattle.cd_pairing.specs.Events.{event_at};
 ghost use Rattle.cd_pairing.specs.Pairing.{IsPairing};
-ghost use Rattle.cd_pairing.specs.Waiting.{IsFirstFit, NothingFits, HasPaired, no_stamp, stamp_at};
+ghost use Rattle.cd_pairing.specs.Settling.{is_neither};
+ghost use Rattle.cd_pairing.specs.Waiting.{ArePaired, HasPaired, stamp_at, stamp_under};
 
-use crate::stamp::{Stamp, may_pair};
-use crate::{Keyed, Windows};
+use crate::queue::{drop_closed, first_fit};
+use crate::stamp::Stamp;
+use crate::{Keyed, Side, Windows};
 use cd_name::List;
 use std::alloc::{AllocError, Global};
+use std::collections::VecDeque;
 
-// The partners of the events so far, and those that are unpaired, in order.
+// The partners of the events so far, and by side, in order, those that are unpaired and still wait.
 #[derive(Drop)]
 struct Matcher {
     partners: Vec<Option<usize>>,
-    free: Vec<Stamp>,
+    queries: VecDeque<Stamp>,
+    responses: VecDeque<Stamp>,
     clock: u64,
     weight_sum: u64,
 }
 
-fn first_fit<E: Keyed>(windows: &Windows, events: &[E], free: &[Stamp], now: Stamp) -> Option<usize>
-    requires now_in { now.place < length events.now }
-    requires free_in { EachIndex free.now (λ k. (slice_index_or free.now k no_stamp).place < length events.now) }
-    ensures { MatchOption result (NothingFits windows.now (map E.view events.now) free.now now) (IsFirstFit windows.now (map E.view events.now) free.now now) }
+// Pairs the next event with the one that waits under this number.
+fn join(
+    partners: &mut Vec<Option<usize>>,
+    others: &mut VecDeque<Stamp>,
+    k: usize,
+    now: Stamp,
+) -> Result<(), AllocError>
+    requires waits { k < length others.old.items }
+    requires known { (stamp_under others.old.items k).place < length partners.old.items }
+    ensures partners { OnOk result (partners.new.items ≡
+        slice_set partners.old.items (stamp_under others.old.items k).place (Some now.place)
+        ++ Some ((stamp_under others.old.items k).place) ∷ []) }
+    ensures others { OnOk result (others.new.items ≡ remove others.old.items k) }
 {
-    let event = &events[now.place];
-    for (k, then) in free.iter().enumerate() {
-        if may_pair(windows, &events[then.place], *then, event, now) {
-            return Some(k);
-        }
+    let then = others[k];
+    others.remove(k);
+    partners[then.place] = Some(now.place);
+    partners.push(Some(then.place))?;
+    Ok(())
+}
+
+// Leaves the next event unpaired, to wait.
+fn leave(
+    partners: &mut Vec<Option<usize>>,
+    own: &mut VecDeque<Stamp>,
+    now: Stamp,
+) -> Result<(), AllocError>
+    ensures partners { OnOk result (partners.new.items ≡ partners.old.items ++ None ∷ []) }
+    ensures own { OnOk result (own.new.items ≡ own.old.items ++ now ∷ []) }
+{
+    partners.push(None)?;
+    own.push_back(now)?;
+    Ok(())
+}
+
+// Takes the next event, a query or a response: `others` wait for it, and `own` are of its side.
+fn meet<E: Keyed>(
+    windows: &Windows,
+    events: &[E],
+    partners: &mut Vec<Option<usize>>,
+    others: &mut VecDeque<Stamp>,
+    own: &mut VecDeque<Stamp>,
+    now: Stamp,
+) -> Result<(), AllocError>
+    requires room { length partners.old.items < length events.now }
+    requires next { now ≡ stamp_at (map E.view events.now) (length partners.old.items) }
+    requires waits { is_neither (event_at (map E.view events.now) now.place).side ≡ false }
+    requires paired { ArePaired windows.now (map E.view events.now) partners.old.items
+        (event_at (map E.view events.now) now.place).side others.old.items own.old.items }
+    ensures count { OnOk result (length partners.new.items ≡ length partners.old.items + 1) }
+    ensures paired { OnOk result (ArePaired windows.now (map E.view events.now) partners.new.items
+        (event_at (map E.view events.now) now.place).side others.new.items own.new.items) }
+{
+    drop_closed(windows, events, others, now);
+    match first_fit(windows, events, others, now) {
+        Some(k) => join(partners, others, k, now),
+        None => leave(partners, own, now),
     }
-    None
 }
 
 impl Matcher {
-    // Pairs the next event with the one that waits under this number.
-    fn join(&mut self, k: usize, now: Stamp) -> Result<(), AllocError>
-        requires waits { k < length self.old.free.items }
-        requires known { (slice_index_or self.old.free.items k no_stamp).place < length self.old.partners.items }
-        ensures partners { OnOk result (self.new.partners.items ≡ slice_set self.old.partners.items (slice_index_or self.old.free.items k no_stamp).place (Some now.place) ++ Some ((slice_index_or self.old.free.items k no_stamp).place) ∷ []) }
-        ensures free { OnOk result (self.new.free.items ≡ remove self.old.free.items k) }
-        ensures clock { self.new.clock ≡ now.clock }
-        ensures weight_sum { self.new.weight_sum ≡ now.weight_sum }
-    {
-        self.clock = now.clock;
-        self.weight_sum = now.weight_sum;
-        let then = self.free.remove(k);
-        self.partners[then.place] = Some(now.place);
-        self.partners.push(Some(then.place))?;
-        Ok(())
-    }
-
-    // Leaves the next event unpaired.
-    fn leave(&mut self, now: Stamp) -> Result<(), AllocError>
-        ensures partners { OnOk result (self.new.partners.items ≡ self.old.partners.items ++ None ∷ []) }
-        ensures free { OnOk result (self.new.free.items ≡ self.old.free.items ++ now ∷ []) }
-        ensures clock { self.new.clock ≡ now.clock }
-        ensures weight_sum { self.new.weight_sum ≡ now.weight_sum }
-    {
-        self.clock = now.clock;
-        self.weight_sum = now.weight_sum;
-        self.partners.push(None)?;
-        self.free.push(now)?;
-        Ok(())
-    }
-
     // The stamp of the next event.
     fn next<E: Keyed>(&self, events: &[E]) -> Stamp
         requires room { length self.now.partners.items < length events.now }
         requires light { sum_by (λ e. e.weight) (map E.view events.now) < 2 ^ 63 }
-        requires clock { self.now.clock ≡ fold (λ latest e. max latest e.time) 0 (take (length self.now.partners.items) (map E.view events.now)) }
-        requires weight_sum { self.now.weight_sum ≡ sum_by (λ e. e.weight) (take (length self.now.partners.items) (map E.view events.now)) }
+        requires clock { self.now.clock ≡
+            fold (λ latest e. max latest e.time) 0 (take (length self.now.partners.items) (map E.view events.now)) }
+        requires weight_sum { self.now.weight_sum ≡
+            sum_by (λ e. e.weight) (take (length self.now.partners.items) (map E.view events.now)) }
         ensures { result ≡ stamp_at (map E.view events.now) (length self.now.partners.items) }
     {
         let place = self.partners.len();
@@ -89,14 +111,30 @@ impl Matcher {
         ensures paired { OnOk result (HasPaired windows.now (map E.view events.now) self.new) }
     {
         let now = self.next(events);
-        match first_fit(windows, events, self.free.as_slice(), now) {
-            Some(k) => self.join(k, now),
-            None => self.leave(now),
+        self.clock = now.clock;
+        self.weight_sum = now.weight_sum;
+        let Matcher {
+            partners,
+            queries,
+            responses,
+            ..
+        } = self;
+        match events[now.place].side() {
+            Side::Query => meet(windows, events, partners, responses, queries, now),
+            Side::Response => meet(windows, events, partners, queries, responses, now),
+            Side::Neither => {
+                partners.push(None)?;
+                Ok(())
+            }
         }
     }
 }
 
-/// For each position the position of its partner in the one pairing of these events.
+/// For each position the position of its partner in the one pairing of these events, or none.
+///
+/// The weights of all events together stay below 2^63. The only error is that memory runs out. Each event is compared
+/// with those of the other side that are unpaired and whose windows are open, so the work is by the number of events
+/// and of those that wait at a time.
 pub fn pair_all<E: Keyed>(
     alloc: Global,
     events: &[E],
@@ -107,7 +145,8 @@ pub fn pair_all<E: Keyed>(
 {
     let mut matcher = Matcher {
         partners: Vec::new(alloc),
-        free: Vec::new(alloc),
+        queries: VecDeque::new(alloc),
+        responses: VecDeque::new(alloc),
         clock: 0,
         weight_sum: 0,
     };

@@ -1,6 +1,6 @@
 use Rattle.std.proofs.Common.{ℕ, ◌+◌, get_or, arith, length, ◌≡◌, ap, ◌∙◌}
 use Rattle.cd_pairing.specs.declared.stamp.Stamp.{Stamp}
-use Rattle.cd_pairing.proofs.Matcher.{next}
+use Rattle.cd_pairing.proofs.Stamps.{next}
 use Rattle.cd_pairing.proofs.whole_list.Matcher.next.Goals as goal
 
 pub overflow_add-result : goal.overflow_add-result
