@@ -12,7 +12,7 @@ use Rattle.cd_pairing.specs.Pairing.{timeout, stamped_event, is_in_window, are_c
 abbrev pub AreHeavy : List EventView → Type 0
 AreHeavy events = (i : ℕ) → i < length events → LEAST_WEIGHT ≤ (event_at events i).weight
 
--- whether an event after these could still stand with the one at this position
+-- of an unpaired query or response: whether an event of the least weight after these could still stand with the one at this position
 unfoldable pub is_window_open : Windows → List EventView → ℕ → Bool
 is_window_open windows events i =
     nat_lt (length events - i) windows.count

@@ -1,8 +1,8 @@
 ghost use Rattle.std.specs.Prelude.{◌≡◌, MatchOption, None, Some};
 ghost use Rattle.cd_pairing.specs.Events.{EventView};
 
-/// The least weight of an event, in the unit of `Keyed::weight`. An event is open only while the window of bytes has
-/// room for one more of this weight, and the laws on what is settled hold where no event is lighter.
+/// The least weight of an event, in the unit of `Keyed::weight`. A window is open only while its bytes have room for
+/// one more event of this weight, and the laws on what is settled hold where no event is lighter.
 pub const LEAST_WEIGHT: u64 = 256;
 
 /// Which half of an exchange an event is.

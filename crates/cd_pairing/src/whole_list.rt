@@ -133,8 +133,8 @@ impl Matcher {
 /// For each position the position of its partner in the one pairing of these events, or none.
 ///
 /// The weights of all events together stay below 2^63. The only error is that memory runs out. Each event is compared
-/// with those of the other side that are unpaired and whose windows are open, so the work is by the number of events
-/// and of those that wait at a time.
+/// with those of the other side that are unpaired and in whose windows it may stand, so the work is by the number of
+/// events and of those that wait at a time.
 pub fn pair_all<E: Keyed>(
     alloc: Global,
     events: &[E],
