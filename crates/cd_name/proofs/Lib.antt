@@ -10,3 +10,4 @@ pub mod Rules
 pub mod Names
 pub mod Pointers
 pub mod OneAnswer
+pub mod Longer

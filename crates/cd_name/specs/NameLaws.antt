@@ -13,6 +13,10 @@ PlainNamesAreRead = (front name behind : List ℕ) → IsName name →
 abbrev pub NamesAreNames : Type 0
 NamesAreNames = (p : List ℕ) (at : ℕ) (name : List ℕ) (next : ℕ) → NameAt p at name next → IsName name × (at < next) × (next ≤ length p)
 
+-- what is read is read with more bytes behind the payload
+abbrev pub NamesStay : Type 0
+NamesStay = (p more : List ℕ) (at : ℕ) (name : List ℕ) (next : ℕ) → NameAt p at name next → NameAt (p ++ more) at name next
+
 -- the bytes of a label
 abbrev pub IsLabel : List ℕ → Type 0
 IsLabel l = (0 < length l) × (length l ≤ 63)

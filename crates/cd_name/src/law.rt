@@ -1,12 +1,17 @@
 //! Laws over the definitions, each the contract of a function that does nothing.
 
-ghost use Rattle.cd_name.specs.NameLaws.{PlainNamesAreRead, NamesAreNames, LabelsAreRead, PointersAreFollowed};
+ghost use Rattle.cd_name.specs.NameLaws.{PlainNamesAreRead, NamesAreNames, NamesStay, LabelsAreRead, PointersAreFollowed};
 ghost use Rattle.cd_name.specs.Rules.{ReadByRules, BrokenByRules, RulesGiveOne};
 
 /// A name that is spelled without pointers is read as itself, and what is read is a name (RFC 1035 3.1).
 pub fn plain_names_are_read()
     ensures plain { PlainNamesAreRead }
     ensures names { NamesAreNames }
+{}
+
+/// What is read in a payload is read with more bytes behind it.
+pub fn names_stay()
+    ensures { NamesStay }
 {}
 
 /// What is read is what the rules give, one by one, and so is the first rule that is broken (RFC 1035 4.1.4).
