@@ -3,11 +3,12 @@ pub mod Runs
 pub mod Readings
 pub mod Labels
 pub mod Steps
-pub mod Plain
+pub mod Spelled
 pub mod LowerCase
 pub mod Cuts
 pub mod Rules
 pub mod Names
 pub mod Pointers
+pub mod Plain
 pub mod OneAnswer
 pub mod Longer

@@ -1,91 +1,55 @@
 -- A name that is spelled without pointers is read as itself.
-use Rattle.std.proofs.Common.{◌≡◌, ℕ, zero, suc, ◌+◌, ◌<◌, ◌≤◌, true, false, List, [], ◌∷◌, ◌++◌, length, take, drop, refl, ap, sym, ◌∙◌, arith, append_assoc, length-append, inl, inr, None, Ok}
-use Rattle.std.proofs.lemmas.Bool.{le-ltb, cases_eq, cases_lt, false≢true}
-use Rattle.std.proofs.lemmas.List.{take-append-drop, take-append-le, nil_from_length, append-nil}
-use Rattle.std.proofs.Math.Seq.{drop-append_seam}
-use Rattle.cd_name.specs.Names.{are_labels_and_root, IsName, label_run, label_then_run, LabelRun, Root, reading_at, name_at, name_of_reading, run_is_cut, is_short_end}
-use Rattle.cd_name.specs.NameLaws.{PlainNamesAreRead}
-use Rattle.cd_name.proofs.Runs.{run-root, run-label, run-inside}
-use Rattle.cd_name.proofs.Labels.{labels-early_root, labels-long, labels-label}
+use Rattle.std.proofs.Common.{◌≡◌, ℕ, ◌+◌, ◌<◌, false, List, [], ◌∷◌, ◌++◌, length, get_or, refl, ap, sym, ◌∙◌, arith, append_assoc, length-append, subst}
+use Rattle.std.proofs.lemmas.List.{get_or-append-add}
+use Rattle.std.proofs.Math.Seq.{drop-append_seam, get_or-append_seam}
+use Rattle.std.specs.List.{AllByRecursion}
+use Rattle.cd_name.specs.Names.{IsName, label_run, LabelRun, NameAt, run_is_cut, is_short_end}
+use Rattle.cd_name.specs.NameLaws.{IsLabel, label_bytes, PlainNamesAreRead}
+use Rattle.cd_name.specs.Rules.{ReadsName, root}
+use Rattle.cd_name.proofs.Runs.{run-root, run-label}
+use Rattle.cd_name.proofs.Rules.{read_by_rules}
+use Rattle.cd_name.proofs.Pointers.{labels_are_read}
+use Rattle.cd_name.proofs.Spelled.{names_are_labels}
 
--- what the run of a name says, whatever comes behind the name
-record RunOf (inside : ℕ) (bytes more : List ℕ) : Type 0 where
-  within : inside < length bytes
-  labels : drop inside bytes ≡ (label_run inside (bytes ++ more)).labels ++ 0 ∷ []
-  root : (label_run inside (bytes ++ more)).end ≡ Root
-
--- a root
-first_root : (n : ℕ) (bytes more : List ℕ) → n ≡ 0 → bytes ≡ [] → RunOf 0 (n ∷ bytes) more
-first_root n bytes more e none =
-    let r = run-root n (bytes ++ more) e in
-    record {
-      within = omega arith;
-      labels = ap (λ k. k ∷ bytes) e ∙ ap (λ bs. 0 ∷ bs) none ∙ ap (λ (x : LabelRun). x.labels ++ 0 ∷ []) (sym r);
-      root = ap (λ (x : LabelRun). x.end) r;
-    }
-
--- a label
-first_label : (n : ℕ) (bytes more : List ℕ) → 0 < n → n ≤ 63 → RunOf n bytes more → RunOf 0 (n ∷ bytes) more
-first_label n bytes more h k deeper =
-    let there : n ≤ length (bytes ++ more) = omega (arith, length-append bytes more, deeper.within) in
-    let r : label_run 0 (n ∷ (bytes ++ more)) ≡ label_then_run (n ∷ take n (bytes ++ more)) (label_run n (bytes ++ more)) =
-    run-label n (bytes ++ more) h k there ∙ ap (λ x. label_then_run (n ∷ take n (bytes ++ more)) x) (sym (run-inside n (bytes ++ more) there)) in
-    let front : take n (bytes ++ more) ≡ take n bytes = take-append-le n bytes more (omega (arith, deeper.within)) in
-    let labels : bytes ≡ take n (bytes ++ more) ++ ((label_run n (bytes ++ more)).labels ++ 0 ∷ []) =
-    sym (take-append-drop n bytes) ∙ ap (λ t. take n bytes ++ t) deeper.labels ∙ ap (λ t. t ++ ((label_run n (bytes ++ more)).labels ++ 0 ∷ [])) (sym front) in
-    record {
-      within = omega arith;
-      labels = ap (λ bs. n ∷ bs) labels ∙ sym (append_assoc (n ∷ take n (bytes ++ more)) (label_run n (bytes ++ more)).labels (0 ∷ []))
-          ∙ ap (λ (x : LabelRun). x.labels ++ 0 ∷ []) (sym r);
-      root = ap (λ (x : LabelRun). x.end) r ∙ deeper.root;
-    }
-
--- the first byte
-first_root_or_label : (n : ℕ) (bytes more : List ℕ) → are_labels_and_root 0 (n ∷ bytes) ≡ true → (are_labels_and_root n bytes ≡ true → RunOf n bytes more) → RunOf 0 (n ∷ bytes) more
-first_root_or_label n bytes more h deeper =
-    elim (cases_eq n 0) [
-      | inl e ↦ elim (cases_eq (length bytes) 0) [
-        | inl none ↦ first_root n bytes more e (nil_from_length bytes none)
-        | inr some ↦ absurd (false≢true (sym (labels-early_root n bytes e (omega arith)) ∙ h))
-      ]
-      | inr e ↦ elim (cases_lt 63 n) [
-        | inl long ↦ absurd (false≢true (sym (labels-long n bytes long) ∙ h))
-        | inr short ↦ first_label n bytes more (omega arith) short (deeper (sym (labels-label n bytes (omega arith) short) ∙ h))
-      ]
-    ]
-
--- the run of a name
-run_of_name : (inside : ℕ) (bytes more : List ℕ) → are_labels_and_root inside bytes ≡ true → RunOf inside bytes more
-unfolding label_run are_labels_and_root
-run_of_name zero [] more h = absurd (false≢true h)
-run_of_name (suc k) [] more h = absurd (false≢true h)
-run_of_name (suc k) (b ∷ bytes) more h =
-    let r = run_of_name k bytes more h in
-    record { within = omega (arith, r.within); labels = r.labels; root = r.root }
-run_of_name zero (n ∷ bytes) more h = first_root_or_label n bytes more h (run_of_name n bytes more)
-
--- what is read where a name stands
-pub reading_of_name : (front name more : List ℕ) (s : ℕ) → IsName name → (labels : List ℕ) × (name ≡ labels ++ 0 ∷ []) ×
-    (reading_at (front ++ (name ++ more)) s (length front) ≡ record { labels = labels; next = length front + length name; fault = None })
-unfolding reading_at
-reading_of_name front name more s is =
-    let r = run_of_name 0 name more is.0 in
-    let seam : drop (length front) (front ++ (name ++ more)) ≡ name ++ more = drop-append_seam front (name ++ more) in
-    let labels : List ℕ = (label_run 0 (name ++ more)).labels in
-    let size : length name ≡ length labels + 1 = ap length r.labels ∙ length-append labels (0 ∷ []) in
-    let place : length front + length labels + 1 ≡ length front + length name = omega arith in
-    (labels, r.labels, rw seam (rw r.root (rw (append-nil labels, place) refl)))
+-- the rules read labels and the root as they are spelled
+spelled_is_read : (labels : List (List ℕ)) (front behind : List ℕ) → AllByRecursion IsLabel labels →
+    ReadsName (front ++ (label_bytes labels ++ 0 ∷ behind)) (length front) (length front) (label_bytes labels ++ 0 ∷ []) (length front + length (label_bytes labels) + 1)
+spelled_is_read labels front behind are =
+    let p : List ℕ = front ++ (label_bytes labels ++ 0 ∷ behind) in
+    let at : ℕ = length front + length (label_bytes labels) in
+    let there : at < length p = omega (arith, length-append front (label_bytes labels ++ 0 ∷ behind), length-append (label_bytes labels) (0 ∷ behind)) in
+    let byte : get_or p at 0 ≡ 0 =
+    get_or-append-add front (label_bytes labels ++ 0 ∷ behind) (length (label_bytes labels)) 0 ∙ get_or-append_seam (label_bytes labels) 0 behind 0 in
+    labels_are_read labels front (0 ∷ behind) (0 ∷ []) (length front) (at + 1) are (root (length front) at there byte)
 
 -- a name that is spelled without pointers is read as itself
 pub plain_names : PlainNamesAreRead
-plain_names front name more is =
-    let r = reading_of_name front name more (length front) is in
-    let size : length name ≡ length r.0 + 1 = ap length r.1 ∙ length-append r.0 (0 ∷ []) in
-    ap (λ p. name_at p (length front)) (append_assoc front name more)
-    ∙ ap name_of_reading r.2 ∙ rw (le-ltb 254 (length r.0) (omega (arith, is.1))) (ap (λ t. Ok (t, length front + length name)) (sym r.1))
+plain_names front name behind is =
+    let s = (names_are_labels name).0 is in
+    let labels : List ℕ = label_bytes s.0 in
+    let p : List ℕ = front ++ (labels ++ 0 ∷ behind) in
+    let whole : (front ++ (labels ++ 0 ∷ [])) ++ behind ≡ p = append_assoc front (labels ++ 0 ∷ []) behind ∙ ap (λ t. front ++ t) (append_assoc labels (0 ∷ []) behind) in
+    let size : length labels + 1 ≡ length (labels ++ 0 ∷ []) = omega (arith, length-append labels (0 ∷ [])) in
+    let next : length front + length labels + 1 ≡ length front + length (labels ++ 0 ∷ []) = omega arith in
+    let read : NameAt p (length front) (labels ++ 0 ∷ []) (length front + length labels + 1) =
+    (read_by_rules p (length front) (labels ++ 0 ∷ []) (length front + length labels + 1)).1 (spelled_is_read s.0 front behind s.1, omega (arith, ap length s.2, s.3)) in
+    subst (λ (n : List ℕ). NameAt ((front ++ n) ++ behind) (length front) n (length front + length n)) (sym s.2)
+    (subst (λ t. NameAt t (length front) (labels ++ 0 ∷ []) (length front + length (labels ++ 0 ∷ []))) (sym whole)
+    (subst (λ k. NameAt p (length front) (labels ++ 0 ∷ []) k) next read))
+
+-- a run of labels ends as what is behind them does
+end_behind_labels : (labels : List (List ℕ)) (more : List ℕ) → AllByRecursion IsLabel labels → (label_run 0 (label_bytes labels ++ more)).end ≡ (label_run 0 more).end
+end_behind_labels [] more are = refl
+end_behind_labels (l ∷ ls) more are =
+    let behind : List ℕ = label_bytes ls ++ more in
+    ap (λ bs. (label_run 0 bs).end) (append_assoc (length l ∷ l) (label_bytes ls) more)
+    ∙ ap (λ (r : LabelRun). r.end) (run-label (length l) (l ++ behind) are.0.0 are.0.1 (omega (arith, length-append l behind)))
+    ∙ ap (λ bs. (label_run 0 bs).end) (drop-append_seam l behind) ∙ end_behind_labels ls more are.1
 
 -- the run of a name that is spelled without pointers is not cut
 pub plain_not_cut : (front name more : List ℕ) → IsName name → run_is_cut (front ++ (name ++ more)) (length front) ≡ false
 plain_not_cut front name more is =
-    let r = run_of_name 0 name more is.0 in
-    ap (λ bs. is_short_end (label_run 0 bs).end) (drop-append_seam front (name ++ more)) ∙ ap is_short_end r.root
+    let s = (names_are_labels name).0 is in
+    let labels : List ℕ = label_bytes s.0 in
+    ap (λ bs. is_short_end (label_run 0 bs).end) (drop-append_seam front (name ++ more) ∙ ap (λ n. n ++ more) s.2 ∙ append_assoc labels (0 ∷ []) more)
+    ∙ ap is_short_end (end_behind_labels s.0 (0 ∷ more) s.1) ∙ ap (λ (r : LabelRun). is_short_end r.end) (run-root 0 more refl)

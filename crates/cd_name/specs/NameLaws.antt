@@ -1,5 +1,5 @@
 -- Laws of names in a message.
-use Rattle.std.specs.Prelude.{◌≡◌, ℕ, ◌+◌, ◌-◌, ◌*◌, ◌<◌, ◌≤◌, List, ◌∷◌, ◌++◌, [], length}
+use Rattle.std.specs.Prelude.{◌≡◌, ◌↔◌, ℕ, ◌+◌, ◌-◌, ◌*◌, ◌<◌, ◌≤◌, List, ◌∷◌, ◌++◌, [], length}
 use Rattle.std.specs.List.{AllByRecursion}
 use Rattle.cd_name.specs.Rules.{ReadsName}
 use Rattle.cd_name.specs.Names.{IsName, NameAt}
@@ -25,6 +25,11 @@ IsLabel l = (0 < length l) × (length l ≤ 63)
 abbrev pub label_bytes : List (List ℕ) → List ℕ
 label_bytes [] = []
 label_bytes (l ∷ ls) = (length l ∷ l) ++ label_bytes ls
+
+-- a name is labels and the root, in at most 255 bytes
+abbrev pub NamesAreLabels : Type 0
+NamesAreLabels = (name : List ℕ) → IsName name ↔
+    ((labels : List (List ℕ)) × AllByRecursion IsLabel labels × (name ≡ label_bytes labels ++ 0 ∷ []) × (length name ≤ 255))
 
 -- labels are read before what is read behind them
 abbrev pub LabelsAreRead : Type 0

@@ -1,7 +1,13 @@
 //! Laws over the definitions, each the contract of a function that does nothing.
 
-ghost use Rattle.cd_name.specs.NameLaws.{PlainNamesAreRead, NamesAreNames, NamesStay, LabelsAreRead, PointersAreFollowed};
+ghost use Rattle.cd_name.specs.NameLaws.{NamesAreLabels, PlainNamesAreRead, NamesAreNames, NamesStay, LabelsAreRead, PointersAreFollowed};
 ghost use Rattle.cd_name.specs.Rules.{ReadByRules, BrokenByRules, RulesGiveOne};
+
+/// A name is labels of 1 to 63 bytes, each behind its length byte, and the root, a byte 0, in at most 255 bytes
+/// (RFC 1035 3.1).
+pub fn names_are_labels()
+    ensures { NamesAreLabels }
+{}
 
 /// A name that is spelled without pointers is read as itself, and what is read is a name (RFC 1035 3.1).
 pub fn plain_names_are_read()
