@@ -1,6 +1,6 @@
 //! Reads a name of a message (RFC 1035 4.1.4).
 
-ghost use Rattle.std.specs.Prelude.{◌<◌, ◌≤◌, length, IfOk};
+ghost use Rattle.std.specs.Prelude.{◌≡◌, ℕ, ◌<◌, ◌≤◌, List, ◌++◌, length, IfOk};
 ghost use Rattle.cd_name.specs.Names.{name_at};
 ghost use Rattle.cd_name.specs.NameGiving.{GivesName, AppendsName};
 
@@ -16,7 +16,8 @@ const MAX_LABELS: usize = 254;
 const USUAL_NAME: usize = 64;
 
 /// Appends the name at an offset to some bytes, without pointers, and gives the offset behind its own bytes: behind its root,
-/// or behind its first pointer. An `Err` may leave labels of it appended.
+/// or behind its first pointer. The bytes that were there stay. After an `Err`, labels of the name that was not read may stand
+/// behind them.
 ///
 /// Labels are read from left to right, and the first rule that is broken is the fault (RFC 1035 3.1, 4.1.4):
 /// - a length byte 0 is the root, which ends the name, and 1 to 63 begin a label with so many bytes; 64 to 191 are `Label`;
@@ -27,6 +28,7 @@ const USUAL_NAME: usize = 64;
 pub fn append_name(bytes: &mut Vec<u8>, payload: &[u8], at: usize) -> Result<usize, NameFault>
     ensures read { AppendsName bytes.old.items bytes.new.items result (name_at payload.now at) }
     ensures within { IfOk result (λ next. (at < next) × (next ≤ length payload.now)) }
+    ensures kept { (more : List ℕ) × (bytes.new.items ≡ bytes.old.items ++ more) }
 {
     let front = bytes.len();
     let mut start = at;

@@ -1,4 +1,4 @@
-use crate::{Name, NameFault, NameWhy, fold, is_name, read_name, run_is_cut};
+use crate::{Name, NameFault, NameWhy, append_name, fold, is_name, read_name, run_is_cut};
 use std::alloc::{AllocError, Global};
 
 // Why no name is read at an offset, if none is.
@@ -122,6 +122,20 @@ fn a_chain_of_pointers_is_followed(rt: HostRuntime) -> Result<(), AllocError> {
     let chain = chain_of_pointers(alloc)?;
     assert!(rt; chain.len() == 2013);
     assert!(rt; is_read(alloc, chain.as_slice(), 2011, b"\x00".as_slice(), 2013)?);
+    Ok(())
+}
+
+#[test]
+fn names_are_appended_to_bytes(rt: HostRuntime) -> Result<(), AllocError> {
+    let message = b"\x03com\x00\x01a\xc0\x00\x01b\x40".as_slice();
+    let names = b"..\x03com\x00\x01a\x03com\x00".as_slice();
+    let mut bytes = Vec::from_slice(rt.alloc(), b"..")?;
+    assert!(rt; append_name(&mut bytes, message, 0) == Ok(5));
+    assert!(rt; append_name(&mut bytes, message, 5) == Ok(9));
+    assert!(rt; bytes.as_slice() == names);
+    // Behind the label at 9 a length byte is reserved.
+    assert!(rt; append_name(&mut bytes, message, 9) == Err(NameFault::Bad(NameWhy::Label)));
+    assert!(rt; bytes.as_slice().starts_with(names));
     Ok(())
 }
 
