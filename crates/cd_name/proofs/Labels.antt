@@ -1,11 +1,10 @@
 -- Labels and the root.
 use Rattle.std.proofs.Common.{◌≡◌, ℕ, zero, suc, ◌+◌, ◌<◌, ◌≤◌, IsTrue, true, false, List, [], ◌∷◌, ◌++◌, length, take, drop, get_or, eqb, refl, ap, sym, ◌∙◌, arith, append_assoc, length-append, inl, inr, subst}
 use Rattle.std.proofs.lemmas.Bool.{le-ltb, lt-ltb, eq-eqb, ne_eqb, cases_eq, cases_lt, eqb-true, false≢true}
-use Rattle.std.proofs.lemmas.List.{drop-drop, length-drop, length-take-le}
+use Rattle.std.proofs.lemmas.List.{length-drop, length-take-le}
 use Rattle.std.proofs.Math.Seq.{drop-append_seam}
-use Rattle.cd_name.proofs.Bytes.{drop-byte}
+use Rattle.cd_name.proofs.Bytes.{drop-byte, take-label, drop-label}
 use Rattle.cd_name.specs.Names.{are_labels_and_root, IsName}
-use Rattle.cd_name.proofs.Readings.{take-one_more}
 
 -- these bytes are labels: whatever comes behind decides
 abbrev pub AreLabels : List ℕ → Type 0
@@ -66,10 +65,8 @@ labels_are_name labels are h = (are (0 ∷ []) ∙ labels-root 0 [] refl refl, o
 pub labels_with_label_at : (p labels : List ℕ) (at n : ℕ) → AreLabels labels → 0 < n → n ≤ 63 → at + n < length p → get_or p at 0 ≡ n →
     AreLabels (labels ++ take (n + 1) (drop at p))
 labels_with_label_at p labels at n are h k m e =
-    let head : drop at p ≡ n ∷ drop (at + 1) p = drop-byte p at n e (omega arith) in
-    let cut : take (n + 1) (drop at p) ≡ n ∷ take n (drop (at + 1) p) = ap (λ bs. take (n + 1) bs) head ∙ take-one_more n n (drop (at + 1) p) in
     let size : length (take n (drop (at + 1) p)) ≡ n = length-take-le n (drop (at + 1) p) (omega (arith, length-drop (at + 1) p)) in
-    subst (λ t. AreLabels (labels ++ t)) (sym cut) (labels_with_label labels n (take n (drop (at + 1) p)) are h k size)
+    subst (λ t. AreLabels (labels ++ t)) (sym (take-label p at n e (omega arith))) (labels_with_label labels n (take n (drop (at + 1) p)) are h k size)
 
 -- where a label or the root stands, the test is decided
 pub no_name : (bytes : List ℕ) → are_labels_and_root 0 bytes ≡ false → (IsTrue false → IsName bytes) × (IsName bytes → IsTrue false)
@@ -85,9 +82,8 @@ pub labels-label_at : (p : List ℕ) (at n : ℕ) → get_or p at 0 ≡ n → 0 
 labels-label_at p at n e h k m =
     let head : drop at p ≡ n ∷ drop (at + 1) p = drop-byte p at n e (omega arith) in
     let there : n ≤ length (drop (at + 1) p) = omega (arith, length-drop (at + 1) p) in
-    let place : at + 1 + n ≡ at + (n + 1) = omega arith in
     ap (λ t. are_labels_and_root 0 t) head ∙ labels-label n (drop (at + 1) p) h k ∙ labels-inside n (drop (at + 1) p) there
-    ∙ ap (λ t. are_labels_and_root 0 t) (drop-drop n (at + 1) p ∙ ap (λ j. drop j p) place)
+    ∙ ap (λ t. are_labels_and_root 0 t) (drop-label p at n)
 
 -- a length byte of 64 or more at an offset, or a label with bytes missing
 pub labels-cut_at : (p : List ℕ) (at n : ℕ) → get_or p at 0 ≡ n → at < length p → 0 < n → (n ≤ 63 → length p ≤ at + n) →

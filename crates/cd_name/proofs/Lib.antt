@@ -1,11 +1,11 @@
 pub mod Bytes
 pub mod Runs
+pub mod RunsAt
 pub mod Readings
 pub mod Labels
 pub mod Steps
 pub mod Spelled
 pub mod LowerCase
-pub mod Cuts
 pub mod Rules
 pub mod Names
 pub mod Pointers

@@ -1,11 +1,11 @@
 -- The rules and the reading agree.
 use Rattle.std.proofs.Common.{◌≡◌, ℕ, zero, suc, ◌+◌, ◌-◌, ◌*◌, ◌<◌, ◌≤◌, List, [], ◌∷◌, ◌++◌, length, take, drop, get_or, refl, ap, sym, ◌∙◌, arith, append_assoc, length-append, subst, inl, inr, ◌⊎◌, Some, None, Result, Ok, Err}
 use Rattle.std.proofs.lemmas.Bool.{le-ltb, lt-ltb, cases_eq, cases_lt}
-use Rattle.std.proofs.lemmas.List.{length-take-le, length-drop}
 use Rattle.cd_name.specs.Names.{NameReading, reading_at, break_reading, label_then_reading, pointer_then_reading, name_at, name_of_reading, NameAt, NameBroken}
 use Rattle.cd_name.specs.Rules.{LabelAt, PointerAt, ReadsName, root, label, pointer, BreaksName, no_byte, reserved_type, part_of_label, part_of_pointer, forward_pointer, long_name, behind_label, behind_pointer, ReadByRules, BrokenByRules}
 use Rattle.cd_name.specs.declared.fault.NameWhy.{NameWhy}
 use Rattle.cd_name.specs.declared.fault.NameWhy.TheVariants.{Short, Label, Pointer, LongName}
+use Rattle.cd_name.proofs.Bytes.{length-label}
 use Rattle.cd_name.proofs.Readings.{reading-none, reading-root, reading-label, reading-cut, reading-reserved, reading-pointer_cut, reading-back, reading-forward}
 
 -- the reading of a name that the rules give
@@ -41,10 +41,6 @@ first_behind_label : (size n : ℕ) (l : List ℕ) (r : NameReading) (why : Name
 first_behind_label size n l r why e (inl f) = inl (omega (arith, length-append l r.labels, f.0), f.1)
 first_behind_label size n l r why e (inr f) = inr (omega (arith, length-append l r.labels, f.0), f.1)
 
--- the bytes of a label with its length byte
-label_size : (p : List ℕ) (at n : ℕ) → LabelAt p at n → length (take (n + 1) (drop at p)) ≡ n + 1
-label_size p at n h = length-take-le (n + 1) (drop at p) (omega (arith, length-drop at p, h.3))
-
 -- what the rules say is broken first is so in the reading
 first_of_rules : {p : List ℕ} {s at size : ℕ} {why : NameWhy} → BreaksName p s at size why → size ≤ 254 → FirstBroken size (reading_at p s at) why
 first_of_rules {p} (no_byte s at size h) small = first_at_once size (reading_at p s at) _ Short small (reading-none p s at h)
@@ -55,11 +51,11 @@ first_of_rules {p} (forward_pointer s at t size h k) small = first_at_once size 
 first_of_rules {p} (long_name s at n size h k) small =
     let l = take (n + 1) (drop at p) in
     subst (λ r. FirstBroken size r LongName) (sym (reading-label p s at n h.0 h.1 h.2 h.3))
-    (inl (omega (arith, length-append l (reading_at p s (at + (n + 1))).labels, label_size p at n h), refl))
+    (inl (omega (arith, length-append l (reading_at p s (at + (n + 1))).labels, length-label p at n h.3), refl))
 first_of_rules {p} (behind_label s at n size why h k deeper) small =
     let l = take (n + 1) (drop at p) in
     subst (λ r. FirstBroken size r why) (sym (reading-label p s at n h.0 h.1 h.2 h.3))
-    (first_behind_label size (n + 1) l (reading_at p s (at + (n + 1))) why (label_size p at n h) (first_of_rules deeper (omega arith)))
+    (first_behind_label size (n + 1) l (reading_at p s (at + (n + 1))) why (length-label p at n h.3) (first_of_rules deeper (omega arith)))
 first_of_rules {p} (behind_pointer s at t size why h k deeper) small =
     subst (λ r. FirstBroken size r why) (sym (reading-back p s at (get_or p at 0) t refl h.0 h.1 h.2 k)) (first_of_rules deeper small)
 
@@ -70,7 +66,7 @@ HasAnswer p s at size = ((name : List ℕ) × (next : ℕ) × ReadsName p s at n
 -- an answer, with a label before it
 answer_with_label : (p : List ℕ) (s at n size : ℕ) → LabelAt p at n → size + (n + 1) + 1 ≤ 255 → HasAnswer p s (at + (n + 1)) (size + (n + 1)) → HasAnswer p s at size
 answer_with_label p s at n size h k (inl d) =
-    inl (take (n + 1) (drop at p) ++ d.0, d.1, label s at n d.0 d.1 h d.2, omega (arith, length-append (take (n + 1) (drop at p)) d.0, label_size p at n h, d.3))
+    inl (take (n + 1) (drop at p) ++ d.0, d.1, label s at n d.0 d.1 h d.2, omega (arith, length-append (take (n + 1) (drop at p)) d.0, length-label p at n h.3, d.3))
 answer_with_label p s at n size h k (inr d) = inr (d.0, behind_label s at n size d.0 h k d.1)
 
 -- an answer, with a pointer to it

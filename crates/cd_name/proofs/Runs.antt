@@ -5,7 +5,7 @@ use Rattle.cd_name.specs.Names.{Root, Target, Break, run_of_end, label_then_run,
 use Rattle.cd_name.specs.declared.fault.NameWhy.TheVariants.{Short, Label}
 
 -- behind the rest of a label the run goes on
-pub run-inside : (inside : ℕ) (bytes : List ℕ) → inside ≤ length bytes → label_run inside bytes ≡ label_run 0 (drop inside bytes)
+run-inside : (inside : ℕ) (bytes : List ℕ) → inside ≤ length bytes → label_run inside bytes ≡ label_run 0 (drop inside bytes)
 unfolding label_run
 run-inside zero bytes h = refl
 run-inside (suc k) [] h = absurd (omega arith)

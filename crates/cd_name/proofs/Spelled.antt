@@ -52,7 +52,7 @@ are_spelled (suc k) (b ∷ bytes) h =
 are_spelled zero (n ∷ bytes) h = root_or_label_first n bytes h (are_spelled n bytes)
 
 -- the bytes of labels pass the test
-pub label_bytes_are_labels : (labels : List (List ℕ)) → AllByRecursion IsLabel labels → AreLabels (label_bytes labels)
+label_bytes_are_labels : (labels : List (List ℕ)) → AllByRecursion IsLabel labels → AreLabels (label_bytes labels)
 label_bytes_are_labels [] are more = refl
 label_bytes_are_labels (l ∷ ls) are more =
     ap (λ t. are_labels_and_root 0 t) (append_assoc (length l ∷ l) (label_bytes ls) more)
