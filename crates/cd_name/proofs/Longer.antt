@@ -1,9 +1,11 @@
--- What is read stays where more bytes stand behind the payload.
-use Rattle.std.proofs.Common.{◌≡◌, ℕ, ◌+◌, List, ◌++◌, take, drop, ap, ◌∙◌, arith, length-append, subst}
+-- What is read stays with more bytes behind the payload, and so does a rule that is broken where no byte is missing.
+use Rattle.std.proofs.Common.{◌≡◌, ◌≢◌, ℕ, ◌+◌, refl, List, ◌++◌, take, drop, ap, ◌∙◌, arith, length-append, subst}
 use Rattle.std.proofs.lemmas.List.{get_or_append_left, take-append-le, drop-append-le, length-drop}
-use Rattle.cd_name.specs.NameLaws.{NamesStay}
-use Rattle.cd_name.specs.Rules.{LabelAt, PointerAt, ReadsName, root, label, pointer}
-use Rattle.cd_name.proofs.Rules.{read_by_rules}
+use Rattle.cd_name.specs.NameLaws.{NamesStay, BrokenNamesStay}
+use Rattle.cd_name.specs.Rules.{LabelAt, PointerAt, ReadsName, root, label, pointer, BreaksName, no_byte, reserved_type, part_of_label, part_of_pointer, forward_pointer, long_name, behind_label, behind_pointer}
+use Rattle.cd_name.specs.declared.fault.NameWhy.{NameWhy}
+use Rattle.cd_name.specs.declared.fault.NameWhy.TheVariants.{Short}
+use Rattle.cd_name.proofs.Rules.{read_by_rules, broken_by_rules}
 
 -- a label stays
 label_stays : (p more : List ℕ) (at n : ℕ) → LabelAt p at n → LabelAt (p ++ more) at n
@@ -36,3 +38,22 @@ pub names_stay : NamesStay
 names_stay p more at name next h =
     let r = (read_by_rules p at name next).0 h in
     (read_by_rules (p ++ more) at name next).1 (rules_stay more r.0, r.1)
+
+-- what the rules say is broken first they say with more bytes behind, unless bytes are missing
+pub broken_rules_stay : {p : List ℕ} (more : List ℕ) {s at size : ℕ} {why : NameWhy} → BreaksName p s at size why → why ≢ Short → BreaksName (p ++ more) s at size why
+broken_rules_stay {p} more (no_byte s at size h) other = absurd (other refl)
+broken_rules_stay {p} more (reserved_type s at size h k m) other =
+    let byte = get_or_append_left p more 0 at h in
+    reserved_type s at size (omega (arith, length-append p more)) (omega (arith, byte)) (omega (arith, byte))
+broken_rules_stay {p} more (part_of_label s at size h k m o) other = absurd (other refl)
+broken_rules_stay {p} more (part_of_pointer s at size h k) other = absurd (other refl)
+broken_rules_stay {p} more (forward_pointer s at target size h past) other = forward_pointer s at target size (pointer_stays p more at target h) past
+broken_rules_stay {p} more (long_name s at n size h much) other = long_name s at n size (label_stays p more at n h) much
+broken_rules_stay {p} more (behind_label s at n size why h fits deeper) other =
+    behind_label s at n size why (label_stays p more at n h) fits (broken_rules_stay more deeper other)
+broken_rules_stay {p} more (behind_pointer s at target size why h before deeper) other =
+    behind_pointer s at target size why (pointer_stays p more at target h) before (broken_rules_stay more deeper other)
+
+-- a rule that is broken where no byte is missing stays broken with more bytes behind
+pub broken_names_stay : BrokenNamesStay
+broken_names_stay p more at why h other = (broken_by_rules (p ++ more) at why).1 (broken_rules_stay more ((broken_by_rules p at why).0 h) other)

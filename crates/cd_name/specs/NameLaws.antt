@@ -1,8 +1,10 @@
 -- Laws of names in a message.
-use Rattle.std.specs.Prelude.{◌≡◌, ◌↔◌, ℕ, ◌+◌, ◌-◌, ◌*◌, ◌<◌, ◌≤◌, List, ◌∷◌, ◌++◌, [], length}
+use Rattle.std.specs.Prelude.{◌≡◌, ◌≢◌, ◌↔◌, ℕ, ◌+◌, ◌-◌, ◌*◌, ◌<◌, ◌≤◌, List, ◌∷◌, ◌++◌, [], length}
 use Rattle.std.specs.List.{AllByRecursion}
 use Rattle.cd_name.specs.Rules.{ReadsName}
-use Rattle.cd_name.specs.Names.{IsName, NameAt}
+use Rattle.cd_name.specs.Names.{IsName, NameAt, NameBroken}
+use Rattle.cd_name.specs.declared.fault.NameWhy.{NameWhy}
+use Rattle.cd_name.specs.declared.fault.NameWhy.TheVariants.{Short}
 
 -- a name that is spelled without pointers is read as itself, whatever stands before and behind it
 abbrev pub PlainNamesAreRead : Type 0
@@ -16,6 +18,10 @@ NamesAreNames = (p : List ℕ) (at : ℕ) (name : List ℕ) (next : ℕ) → Nam
 -- what is read is read with more bytes behind the payload
 abbrev pub NamesStay : Type 0
 NamesStay = (p more : List ℕ) (at : ℕ) (name : List ℕ) (next : ℕ) → NameAt p at name next → NameAt (p ++ more) at name next
+
+-- a rule that is broken where no byte is missing stays broken with more bytes behind the payload
+abbrev pub BrokenNamesStay : Type 0
+BrokenNamesStay = (p more : List ℕ) (at : ℕ) (why : NameWhy) → NameBroken p at why → why ≢ Short → NameBroken (p ++ more) at why
 
 -- the bytes of a label
 abbrev pub IsLabel : List ℕ → Type 0

@@ -1,6 +1,6 @@
 //! Laws over the definitions, each the contract of a function that does nothing.
 
-ghost use Rattle.cd_name.specs.NameLaws.{NamesAreLabels, PlainNamesAreRead, NamesAreNames, NamesStay, LabelsAreRead, PointersAreFollowed};
+ghost use Rattle.cd_name.specs.NameLaws.{NamesAreLabels, PlainNamesAreRead, NamesAreNames, NamesStay, BrokenNamesStay, LabelsAreRead, PointersAreFollowed};
 ghost use Rattle.cd_name.specs.Rules.{ReadByRules, BrokenByRules, RulesGiveOne};
 
 /// A name is labels of 1 to 63 bytes, each behind its length byte, and the root, a byte 0, in at most 255 bytes
@@ -15,9 +15,11 @@ pub fn plain_names_are_read()
     ensures names { NamesAreNames }
 {}
 
-/// What is read in a payload is read with more bytes behind it.
+/// What is read in a payload is read with more bytes behind it, and the first rule that is broken stays the first, unless it
+/// is that bytes are missing.
 pub fn names_stay()
-    ensures { NamesStay }
+    ensures read { NamesStay }
+    ensures broken { BrokenNamesStay }
 {}
 
 /// What is read is what the rules give, one by one, and so is the first rule that is broken (RFC 1035 4.1.4).
