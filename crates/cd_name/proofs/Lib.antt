@@ -12,3 +12,5 @@ pub mod Pointers
 pub mod Plain
 pub mod OneAnswer
 pub mod Longer
+pub mod Offsets
+pub mod NameProgress

@@ -3,3 +3,5 @@ pub mod Pieces
 pub mod NameGiving
 pub mod Rules
 pub mod NameLaws
+pub mod NameSizes
+pub mod WrittenNames

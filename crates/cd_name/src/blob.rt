@@ -1,4 +1,4 @@
-ghost use Rattle.std.specs.Prelude.{◌≡◌, [], ◌∷◌, ◌++◌, length, OnOk, OnErr};
+ghost use Rattle.std.specs.Prelude.{◌≡◌, [], ◌∷◌, ◌++◌, length, take, ◌<◌, slice_set, OnOk, OnErr};
 
 use std::alloc::AllocError;
 use std::marker::Model;
@@ -39,6 +39,29 @@ impl Blob {
     {
         self.bytes.push(byte)?;
         Ok(())
+    }
+
+    /// Adds bytes at the end. An `Err` changes nothing.
+    pub fn push_slice(&mut self, bytes: &[u8]) -> Result<(), AllocError>
+        ensures ok { OnOk result (self.new ≡ self.old ++ bytes.now) }
+        ensures err { OnErr result (self.new ≡ self.old) }
+    {
+        self.bytes.extend_from_slice(bytes)
+    }
+
+    /// Keeps the first bytes, as many as are given, and drops those behind them.
+    pub fn truncate(&mut self, len: usize)
+        ensures { self.new ≡ take len self.old }
+    {
+        self.bytes.truncate(len);
+    }
+
+    /// Puts another byte in the place of the one at an offset.
+    pub fn set(&mut self, at: usize, byte: u8)
+        requires { at < length self.old }
+        ensures { self.new ≡ slice_set self.old at byte }
+    {
+        self.bytes[at] = byte;
     }
 
     /// The bytes as a `Vec`, which are not copied.

@@ -21,6 +21,7 @@ mod name;
 mod name_reading;
 #[cfg(test)]
 mod name_tests;
+mod name_writer;
 mod piece;
 #[cfg(test)]
 mod tests;
@@ -35,3 +36,4 @@ pub use law::{
 pub use list::List;
 pub use name::{Name, fold, is_name};
 pub use name_reading::{append_name, read_name};
+pub use name_writer::NameWriter;
