@@ -14,3 +14,6 @@ pub mod OneAnswer
 pub mod Longer
 pub mod Offsets
 pub mod NameProgress
+pub mod LeastOffsets
+pub mod WrittenByRule
+pub mod WrittenRead

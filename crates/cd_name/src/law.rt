@@ -2,6 +2,7 @@
 
 ghost use Rattle.cd_name.specs.NameLaws.{NamesAreLabels, PlainNamesAreRead, NamesAreNames, NamesStay, BrokenNamesStay, LabelsAreRead, PointersAreFollowed};
 ghost use Rattle.cd_name.specs.Rules.{ReadByRules, BrokenByRules, RulesGiveOne};
+ghost use Rattle.cd_name.specs.WrittenNames.{NamesAreWrittenByRule, WrittenNamesAreRead};
 
 /// A name is labels of 1 to 63 bytes, each behind its length byte, and the root, a byte 0, in at most 255 bytes
 /// (RFC 1035 3.1).
@@ -38,4 +39,16 @@ pub fn rules_give_one()
 pub fn pointers_are_followed()
     ensures labels { LabelsAreRead }
     ensures pointers { PointersAreFollowed }
+{}
+
+/// A name is written as the labels before its longest suffix that stands, and a pointer to the least offset of that, or as it
+/// is; and a suffix comes to stand at each label that is written, if a pointer can lead there (RFC 1035 4.1.4).
+pub fn names_are_written_by_rule()
+    ensures { NamesAreWrittenByRule }
+{}
+
+/// A name that is written behind bytes in which suffixes stand is read as itself, and so are the suffixes that come to stand
+/// (RFC 1035 4.1.4).
+pub fn written_names_are_read()
+    ensures { WrittenNamesAreRead }
 {}
