@@ -68,10 +68,6 @@ labels_with_label_at p labels at n are h k m e =
     let size : length (take n (drop (at + 1) p)) ≡ n = length-take-le n (drop (at + 1) p) (omega (arith, length-drop (at + 1) p)) in
     subst (λ t. AreLabels (labels ++ t)) (sym (take-label p at n e (omega arith))) (labels_with_label labels n (take n (drop (at + 1) p)) are h k size)
 
--- where a label or the root stands, the test is decided
-pub no_name : (bytes : List ℕ) → are_labels_and_root 0 bytes ≡ false → (IsTrue false → IsName bytes) × (IsName bytes → IsTrue false)
-no_name bytes h = (λ f. absurd (false≢true f), λ is. sym h ∙ is.0)
-
 -- no byte at an offset
 pub labels-none_at : (p : List ℕ) (at : ℕ) → length p ≤ at → are_labels_and_root 0 (drop at p) ≡ false
 labels-none_at p at h = labels-short 0 (drop at p) (omega (arith, length-drop at p))
@@ -84,27 +80,3 @@ labels-label_at p at n e h k m =
     let there : n ≤ length (drop (at + 1) p) = omega (arith, length-drop (at + 1) p) in
     ap (λ t. are_labels_and_root 0 t) head ∙ labels-label n (drop (at + 1) p) h k ∙ labels-inside n (drop (at + 1) p) there
     ∙ ap (λ t. are_labels_and_root 0 t) (drop-label p at n)
-
--- a length byte of 64 or more at an offset, or a label with bytes missing
-pub labels-cut_at : (p : List ℕ) (at n : ℕ) → get_or p at 0 ≡ n → at < length p → 0 < n → (n ≤ 63 → length p ≤ at + n) →
-    are_labels_and_root 0 (drop at p) ≡ false
-labels-cut_at p at n e m h cut =
-    let head : drop at p ≡ n ∷ drop (at + 1) p = drop-byte p at n e m in
-    ap (λ t. are_labels_and_root 0 t) head ∙
-    elim (cases_lt 63 n) [
-      | inl long ↦ labels-long n (drop (at + 1) p) long
-      | inr short ↦ labels-label n (drop (at + 1) p) h short ∙ labels-short n (drop (at + 1) p) (omega (arith, length-drop (at + 1) p, cut short))
-    ]
-
--- a root at an offset
-pub labels-root_at : (p : List ℕ) (at : ℕ) → are_labels_and_root 0 p ≡ are_labels_and_root 0 (drop at p) → at < length p → length p ≤ 255 → get_or p at 0 ≡ 0 →
-    (IsTrue (eqb (at + 1) (length p)) → IsName p) × (IsName p → IsTrue (eqb (at + 1) (length p)))
-labels-root_at p at same m short e =
-    let head : drop at p ≡ 0 ∷ drop (at + 1) p = drop-byte p at 0 e m in
-    let size = length-drop (at + 1) p in (
-      λ last. (same ∙ ap (λ t. are_labels_and_root 0 t) head ∙ labels-root 0 (drop (at + 1) p) refl (omega (arith, size, eqb-true (at + 1) (length p) last)), short),
-      λ is. elim (cases_eq (at + 1) (length p)) [
-        | inl last ↦ eq-eqb (at + 1) (length p) last
-        | inr more ↦ absurd (false≢true (sym (same ∙ ap (λ t. are_labels_and_root 0 t) head ∙ labels-early_root 0 (drop (at + 1) p) refl (omega arith)) ∙ is.0))
-      ],
-    )

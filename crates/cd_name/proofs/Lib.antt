@@ -14,6 +14,8 @@ pub mod OneAnswer
 pub mod Longer
 pub mod Offsets
 pub mod NameProgress
+pub mod NameSizes
+pub mod SizeSteps
 pub mod LeastOffsets
 pub mod WrittenByRule
 pub mod WrittenRead

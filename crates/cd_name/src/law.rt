@@ -1,6 +1,8 @@
 //! Laws over the definitions, each the contract of a function that does nothing.
 
 ghost use Rattle.cd_name.specs.NameLaws.{NamesAreLabels, PlainNamesAreRead, NamesAreNames, NamesStay, BrokenNamesStay, LabelsAreRead, PointersAreFollowed};
+ghost use Rattle.cd_name.specs.NameLaws.{NamesAreLabels, PlainNamesAreRead, NamesAreNames, NamesStay, LabelsAreRead, PointersAreFollowed};
+ghost use Rattle.cd_name.specs.NameSizes.{NameSizesAreExact};
 ghost use Rattle.cd_name.specs.Rules.{ReadByRules, BrokenByRules, RulesGiveOne};
 ghost use Rattle.cd_name.specs.WrittenNames.{NamesAreWrittenByRule, WrittenNamesAreRead};
 
@@ -8,6 +10,11 @@ ghost use Rattle.cd_name.specs.WrittenNames.{NamesAreWrittenByRule, WrittenNames
 /// (RFC 1035 3.1).
 pub fn names_are_labels()
     ensures { NamesAreLabels }
+{}
+
+/// The number of bytes of a name without pointers at the front of some bytes is told exactly if there is one (RFC 1035 3.1).
+pub fn name_sizes_are_exact()
+    ensures { NameSizesAreExact }
 {}
 
 /// A name that is spelled without pointers is read as itself, and what is read is a name (RFC 1035 3.1).

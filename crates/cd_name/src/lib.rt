@@ -30,10 +30,11 @@ pub use blob::Blob;
 pub use fault::{NameFault, NameWhy};
 pub use label_run::run_is_cut;
 pub use law::{
-    names_are_labels, names_are_written_by_rule, names_follow_the_rules, names_stay,
-    plain_names_are_read, pointers_are_followed, rules_give_one, written_names_are_read,
+    name_sizes_are_exact, names_are_labels, names_are_written_by_rule, names_follow_the_rules,
+    names_stay, plain_names_are_read, pointers_are_followed, rules_give_one,
+    written_names_are_read,
 };
 pub use list::List;
-pub use name::{Name, fold, is_name};
+pub use name::{Name, fold, is_name, name_size};
 pub use name_reading::{append_name, read_name};
 pub use name_writer::NameWriter;

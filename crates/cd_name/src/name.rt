@@ -2,6 +2,7 @@
 
 ghost use Rattle.std.specs.Prelude.{◌≡◌, ◌↔◌, IsTrue, IfOk, map};
 ghost use Rattle.std.proofs.Props.{props};
+ghost use Rattle.cd_name.specs.NameSizes;
 ghost use Rattle.cd_name.specs.Names.{IsName, lower_case};
 
 use crate::piece::MAX_LABEL;
@@ -54,26 +55,30 @@ impl Name {
 /// The greatest number of bytes of a name (RFC 1035 3.1).
 const MAX_NAME: usize = 255;
 
+/// The number of bytes of the name without pointers that some bytes begin with, if they begin with one (RFC 1035 3.1).
+pub fn name_size(bytes: &[u8]) -> Option<usize>
+    ensures { result ≡ NameSizes.name_size bytes.now }
+{
+    let mut here = 0;
+    'labels: while here < bytes.len() && here < MAX_NAME {
+        let size = usize::from(bytes[here]);
+        if size == 0 {
+            return Some(here + 1);
+        }
+        if size > MAX_LABEL {
+            return None;
+        }
+        here += size + 1;
+    }
+    None
+}
+
 /// Whether the bytes are a name without pointers: labels of 1 to 63 bytes, each behind its length byte, and the root as the
 /// last byte, in 1 to 255 bytes (RFC 1035 3.1).
 pub fn is_name(bytes: &[u8]) -> bool
     ensures { IsTrue result ↔ IsName bytes.now }
 {
-    if bytes.len() > MAX_NAME {
-        return false;
-    }
-    let mut here = 0;
-    'labels: while here < bytes.len() {
-        let size = usize::from(bytes[here]);
-        if size == 0 {
-            return here + 1 == bytes.len();
-        }
-        if size > MAX_LABEL || bytes.len() - here <= size {
-            return false;
-        }
-        here += size + 1;
-    }
-    false
+    name_size(bytes) == Some(bytes.len())
 }
 
 /// The bytes in lower case: 0x41 to 0x5a become 0x61 to 0x7a, and the others stay.

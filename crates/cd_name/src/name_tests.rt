@@ -1,4 +1,6 @@
-use crate::{Name, NameFault, NameWhy, append_name, fold, is_name, read_name, run_is_cut};
+use crate::{
+    Name, NameFault, NameWhy, append_name, fold, is_name, name_size, read_name, run_is_cut,
+};
 use std::alloc::{AllocError, Global};
 
 // Why no name is read at an offset, if none is.
@@ -161,6 +163,8 @@ fn names_are_told_from_other_bytes(rt: HostRuntime) -> Result<(), AllocError> {
     for (bytes, want) in rows {
         assert!(rt; is_name(bytes) == want);
     }
+    assert!(rt; name_size(b"\x01a\x00\x01b\x00".as_slice()) == Some(3));
+    assert!(rt; name_size(longer.as_slice()) == None);
     Ok(())
 }
 
