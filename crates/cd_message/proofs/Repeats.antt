@@ -22,6 +22,11 @@ with_front-nil (Err why) = refl
 with_front-end : {A P : Type 0} (front : List A) (place : P) → with_front front (Ok ([], place)) ≡ Ok (front, place)
 with_front-end front place = rw (append-nil front) refl
 
+-- a fault of the first of two readings is one of both
+pub fault_first : {A B : Type 0} (e : ParseFault) (r : Result A MsgWhy) (read : A → Result B MsgWhy) → GivesFault e r → GivesFault e (r >>= read)
+fault_first fault.NoMemory r read h = tt
+fault_first (fault.Malformed why) r read h = rw h refl
+
 -- before the first reading of a loop
 pub repeat_start : {A P : Type 0} (read : P → Result (A × P) MsgWhy) (count : ℕ) (place : P) → with_front [] (repeat read (count - 0) place) ≡ repeat read count place
 repeat_start read count place = let k : count - 0 ≡ count = omega arith in rw k (with_front-nil (repeat read count place))

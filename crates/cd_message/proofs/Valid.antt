@@ -1,5 +1,5 @@
 -- A message that is read is valid.
-use Rattle.std.proofs.Common.{◌≡◌, ℕ, zero, suc, ◌+◌, ◌-◌, ◌*◌, ◌≤◌, Bool, List, [], ◌∷◌, ◌++◌, length, drop, Ok, Option, None, Some, refl, ap, length-append, arith, true, false, subst, inl, inr, nat_eq, nat_lt, cond, ◌&&◌, if◌then◌else◌, Fits, w8, get_or}
+use Rattle.std.proofs.Common.{◌≡◌, ℕ, zero, suc, ◌+◌, ◌-◌, ◌*◌, ◌≤◌, Bool, List, [], ◌∷◌, ◌++◌, length, drop, Ok, Option, None, Some, refl, ap, length-append, arith, true, false, subst, inl, inr, nat_eq, nat_lt, cond, ◌&&◌, not, if◌then◌else◌, Fits, w8, get_or, ◌∙◌}
 use Rattle.std.specs.List.{All, concat, count_by}
 use Rattle.std.proofs.lemmas.List.{length-take}
 use Rattle.std.proofs.lemmas.List.Elements.{All-nil, All-cons, All-head, All-tail}
@@ -12,11 +12,10 @@ use Rattle.cd_message.specs.declared.message.Question.{Question}
 use Rattle.cd_message.specs.declared.message.Rr.{Rr}
 use Rattle.cd_message.specs.declared.message.Message.{Message}
 use Rattle.cd_message.specs.declared.message.TheConstants.{OPT}
-use Rattle.cd_message.specs.declared.place.Place.{Place}
 use Rattle.cd_message.specs.declared.shape.Shape as kind
 use Rattle.cd_message.specs.Readings.{repeat}
-use Rattle.cd_message.specs.Messages.{rdata_of_shape, word, why_of, name_in, question_at, breaks_opt_rule, record_behind_owner, record_at, section_at, message_of, rdata_at}
-use Rattle.cd_message.specs.Shapes.{shape_of, shape, holds_name, holds_two_names, holds_number_and_name}
+use Rattle.cd_message.specs.Messages.{rdata_of_shape, word, why_of, name_in, question_at, breaks_opt_rule, record_behind_owner, record_at, opt_allowed_behind, record_step, records_at, message_of, rdata_at}
+use Rattle.cd_message.specs.Shapes.{shape_of, shape, holds_name, holds_number_and_name}
 use Rattle.cd_message.specs.Valid.{FillsShape, KeepsShape, is_opt, ValidRecord, ValidSection, Valid}
 use Rattle.cd_message.specs.MessageLaws.{AreBytes, MessagesAreValid}
 use Rattle.cd_message.proofs.Binds.{bind_ok, ok_same, name_reading_ok, if_err_else}
@@ -42,19 +41,21 @@ choice_is_small true x y h k = h
 choice_is_small false x y h k = k
 
 -- a small shape
-shape_is_small : (before names behind : ℕ) → before ≤ 6 → names ≤ 2 → behind ≤ 20 → IsSmall (shape before names behind)
-shape_is_small before names behind h k m = (h, k, m)
+shape_is_small : (before names behind : ℕ) (compressed : Bool) → before ≤ 6 → names ≤ 2 → behind ≤ 20 → IsSmall (shape before names behind compressed)
+shape_is_small before names behind compressed h k m = (h, k, m)
 
 -- each shape is small
 shapes_are_small : (t : ℕ) → IsSmall (shape_of t)
 unfolding shape_of
 shapes_are_small t =
-    choice_is_small (holds_name t) (shape 0 1 0) _ (shape_is_small 0 1 0 (omega arith) (omega arith) (omega arith))
-    (choice_is_small (nat_eq t 6) (shape 0 2 20) _ (shape_is_small 0 2 20 (omega arith) (omega arith) (omega arith))
-    (choice_is_small (holds_two_names t) (shape 0 2 0) _ (shape_is_small 0 2 0 (omega arith) (omega arith) (omega arith))
-    (choice_is_small (holds_number_and_name t) (shape 2 1 0) _ (shape_is_small 2 1 0 (omega arith) (omega arith) (omega arith))
-    (choice_is_small (nat_eq t 26) (shape 2 2 0) _ (shape_is_small 2 2 0 (omega arith) (omega arith) (omega arith))
-    (choice_is_small (nat_eq t 33) (shape 6 1 0) None (shape_is_small 6 1 0 (omega arith) (omega arith) (omega arith)) tt)))))
+    choice_is_small (holds_name t) (shape 0 1 0 true) _ (shape_is_small 0 1 0 true (omega arith) (omega arith) (omega arith))
+    (choice_is_small (nat_eq t 6) (shape 0 2 20 true) _ (shape_is_small 0 2 20 true (omega arith) (omega arith) (omega arith))
+    (choice_is_small (nat_eq t 14) (shape 0 2 0 true) _ (shape_is_small 0 2 0 true (omega arith) (omega arith) (omega arith))
+    (choice_is_small (nat_eq t 15) (shape 2 1 0 true) _ (shape_is_small 2 1 0 true (omega arith) (omega arith) (omega arith))
+    (choice_is_small (nat_eq t 17) (shape 0 2 0 false) _ (shape_is_small 0 2 0 false (omega arith) (omega arith) (omega arith))
+    (choice_is_small (holds_number_and_name t) (shape 2 1 0 false) _ (shape_is_small 2 1 0 false (omega arith) (omega arith) (omega arith))
+    (choice_is_small (nat_eq t 26) (shape 2 2 0 false) _ (shape_is_small 2 2 0 false (omega arith) (omega arith) (omega arith))
+    (choice_is_small (nat_eq t 33) (shape 6 1 0 false) None (shape_is_small 6 1 0 false (omega arith) (omega arith) (omega arith)) tt)))))))
 
 -- names have at most 255 bytes each
 length-concat : (names : List (List ℕ)) → All IsName names → length (concat names) ≤ 255 * length names
@@ -144,19 +145,19 @@ abbrev opts_of : Rr → ℕ
 opts_of r = cond (is_opt r) 1 0
 
 -- an OPT record takes the leave for one
-opts_fall : (is allowed owned : Bool) → (is && (if allowed then owned else true)) ≡ false → cond is 1 0 + opts_from (if is then false else allowed) ≤ opts_from allowed
+opts_fall : (is allowed owned : Bool) → (is && (if allowed then owned else true)) ≡ false → cond is 1 0 + opts_from (allowed && not is) ≤ opts_from allowed
 opts_fall true true owned h = omega arith
 opts_fall true false owned h = absurd (cc h)
 opts_fall false true owned h = omega arith
 opts_fall false false owned h = omega arith
 
 -- a valid record, and the leave for an OPT record behind it
-record FitsPlace (allowed : Bool) (x : Rr × Place) : Type 0 where
+record FitsPlace (allowed : Bool) (x : Rr × ℕ) : Type 0 where
   valid : ValidRecord x.0
-  opts : opts_of x.0 + opts_from x.1.opt_allowed ≤ opts_from allowed
+  opts : opts_of x.0 + opts_from (opt_allowed_behind allowed x.0) ≤ opts_from allowed
 
 -- a record that is read behind its owner fits its place
-behind_owner_fits : (p : List ℕ) (allowed : Bool) (owner : List ℕ) (at : ℕ) (x : Rr × Place) → AreBytes p → IsName owner →
+behind_owner_fits : (p : List ℕ) (allowed : Bool) (owner : List ℕ) (at : ℕ) (x : Rr × ℕ) → AreBytes p → IsName owner →
     record_behind_owner p allowed owner at ≡ Ok x → FitsPlace allowed x
 unfolding record_behind_owner
 behind_owner_fits p allowed owner at x bytes is h =
@@ -177,11 +178,11 @@ behind_owner_fits p allowed owner at x bytes is h =
     })
 
 -- a record that is read fits its place
-record_fits : (p : List ℕ) (place : Place) (x : Rr × Place) → AreBytes p → record_at p place ≡ Ok x → FitsPlace place.opt_allowed x
+record_fits : (p : List ℕ) (allowed : Bool) (at : ℕ) (x : Rr × ℕ) → AreBytes p → record_at p allowed at ≡ Ok x → FitsPlace allowed x
 unfolding record_at
-record_fits p place x bytes h =
-    let one = bind_ok (name_in p place.offset) _ x h in
-    behind_owner_fits p place.opt_allowed one.0.0 one.0.1 x bytes (named p place.offset one.0 one.1).0 one.2
+record_fits p allowed at x bytes h =
+    let one = bind_ok (name_in p at) _ x h in
+    behind_owner_fits p allowed one.0.0 one.0.1 x bytes (named p at one.0 one.1).0 one.2
 
 -- so many valid records, with so many OPT records
 record FitsSection (allowed : Bool) (count : ℕ) (records : List Rr) : Type 0 where
@@ -190,29 +191,33 @@ record FitsSection (allowed : Bool) (count : ℕ) (records : List Rr) : Type 0 w
   opts : count_by is_opt records ≤ opts_from allowed
 
 -- records that are read fit their section
-records_fit : (p : List ℕ) (count : ℕ) (place : Place) (x : List Rr × Place) → AreBytes p → repeat (record_at p) count place ≡ Ok x → FitsSection place.opt_allowed count x.0
+records_fit : (p : List ℕ) (count at : ℕ) (allowed : Bool) (x : List Rr × (ℕ × Bool)) → AreBytes p → repeat (record_step p) count (at, allowed) ≡ Ok x → FitsSection allowed count x.0
 unfolding repeat
-records_fit p zero place x bytes h =
-    let e : [] ≡ x.0 = ap (λ (v : List Rr × Place). v.0) (ok_same ([], place) x h) in
-    subst (λ rs. FitsSection place.opt_allowed 0 rs) e (record { each = All-nil ValidRecord; size = refl; opts = omega arith })
-records_fit p (suc count) place x bytes h =
-    let one = bind_ok (record_at p place) _ x h in
-    let two = bind_ok (repeat (record_at p) count one.0.1) _ x one.2 in
-    let e : one.0.0 ∷ two.0.0 ≡ x.0 = ap (λ (v : List Rr × Place). v.0) (ok_same (one.0.0 ∷ two.0.0, two.0.1) x two.2) in
-    let first = record_fits p place one.0 bytes one.1 in
-    let others = records_fit p count one.0.1 two.0 bytes two.1 in
-    subst (λ rs. FitsSection place.opt_allowed (suc count) rs) e (record {
+records_fit p zero at allowed x bytes h =
+    let e : [] ≡ x.0 = ap (λ (v : List Rr × (ℕ × Bool)). v.0) (ok_same ([], (at, allowed)) x h) in
+    subst (λ rs. FitsSection allowed 0 rs) e (record { each = All-nil ValidRecord; size = refl; opts = omega arith })
+records_fit p (suc count) at allowed x bytes h =
+    let step = bind_ok (record_step p (at, allowed)) _ x h in
+    let one = bind_ok (record_at p allowed at) _ step.0 step.1 in
+    let two = bind_ok (repeat (record_step p) count step.0.1) _ x step.2 in
+    let is : (one.0.0, (one.0.1, opt_allowed_behind allowed one.0.0)) ≡ step.0 = ok_same _ step.0 one.2 in
+    let again : repeat (record_step p) count (one.0.1, opt_allowed_behind allowed one.0.0) ≡ Ok two.0 =
+    ap (λ (v : Rr × (ℕ × Bool)). repeat (record_step p) count v.1) is ∙ two.1 in
+    let e : one.0.0 ∷ two.0.0 ≡ x.0 = ap (λ (v : Rr × (ℕ × Bool)). v.0 ∷ two.0.0) is ∙ ap (λ (v : List Rr × (ℕ × Bool)). v.0) (ok_same (step.0.0 ∷ two.0.0, two.0.1) x two.2) in
+    let first = record_fits p allowed at one.0 bytes one.1 in
+    let others = records_fit p count one.0.1 (opt_allowed_behind allowed one.0.0) two.0 bytes again in
+    subst (λ rs. FitsSection allowed (suc count) rs) e (record {
       each = All-cons ValidRecord one.0.0 two.0.0 first.valid others.each;
       size = ap suc others.size;
       opts = omega (arith, sum_by-cons opts_of one.0.0 two.0.0, first.opts, others.opts);
     })
 
 -- a section that is read fits
-section_fits : (p : List ℕ) (count : ℕ) (allowed : Bool) (at : ℕ) (x : List Rr × ℕ) → AreBytes p → section_at p count allowed at ≡ Ok x → FitsSection allowed count x.0
+section_fits : (p : List ℕ) (count : ℕ) (allowed : Bool) (at : ℕ) (x : List Rr × ℕ) → AreBytes p → records_at p count allowed at ≡ Ok x → FitsSection allowed count x.0
 section_fits p count allowed at x bytes h =
-    let one = bind_ok (repeat (record_at p) count (record { offset = at; opt_allowed = allowed })) _ x h in
-    let e : one.0.0 ≡ x.0 = ap (λ (v : List Rr × ℕ). v.0) (ok_same (one.0.0, one.0.1.offset) x one.2) in
-    subst (λ rs. FitsSection allowed count rs) e (records_fit p count (record { offset = at; opt_allowed = allowed }) one.0 bytes one.1)
+    let one = bind_ok (repeat (record_step p) count (at, allowed)) _ x h in
+    let e : one.0.0 ≡ x.0 = ap (λ (v : List Rr × ℕ). v.0) (ok_same (one.0.0, one.0.1.0) x one.2) in
+    subst (λ rs. FitsSection allowed count rs) e (records_fit p count at allowed one.0 bytes one.1)
 
 -- a section that fits is valid
 section_is_valid : (allowed : Bool) (count : ℕ) (records : List Rr) → count ≤ 65535 → FitsSection allowed count records → ValidSection (opts_from allowed) records
@@ -258,9 +263,9 @@ messages_are_valid p m used bytes h =
     let x : Message × ℕ = (m, used) in
     let start = if_err_else (nat_lt (length p) 12) Short _ x h in
     let q = bind_ok (repeat (question_at p) (word p 4) 12) _ x start.1 in
-    let a = bind_ok (section_at p (word p 6) false q.0.1) _ x q.2 in
-    let n = bind_ok (section_at p (word p 8) false a.0.1) _ x a.2 in
-    let d = bind_ok (section_at p (word p 10) true n.0.1) _ x n.2 in
+    let a = bind_ok (records_at p (word p 6) false q.0.1) _ x q.2 in
+    let n = bind_ok (records_at p (word p 8) false a.0.1) _ x a.2 in
+    let d = bind_ok (records_at p (word p 10) true n.0.1) _ x n.2 in
     let questions = questions_fit p (word p 4) 12 q.0 q.1 in
     let read : Message × ℕ =
     (record { id = word p 0; bits = word p 2; questions = q.0.0; answers = a.0.0; authority = n.0.0; additional = d.0.0 }, d.0.1) in

@@ -1,10 +1,11 @@
 -- Laws of the reading of messages.
-use Rattle.std.specs.Prelude.{◌≡◌, ℕ, ◌≤◌, ◌<◌, List, length, slice_index, Ok, ◌⊎◌}
+use Rattle.std.specs.Prelude.{◌≡◌, ℕ, ◌≤◌, ◌<◌, List, ◌++◌, length, slice_index, Ok, ◌⊎◌}
 use Rattle.cd_message.specs.declared.message.MsgWhy.{MsgWhy}
 use Rattle.cd_message.specs.declared.message.Message.{Message}
 use Rattle.cd_message.specs.Messages.{Spells, Breaks, rdata_at}
 use Rattle.cd_message.specs.Shapes.{shape_of}
 use Rattle.cd_message.specs.Valid.{Valid, KeepsShape}
+use Rattle.cd_message.specs.Weights.{weight_of}
 
 -- numbers below 256
 abbrev pub AreBytes : List ℕ → Type 0
@@ -13,6 +14,18 @@ AreBytes payload = (i : ℕ) → slice_index payload i < 256
 -- a message that is read is valid
 abbrev pub MessagesAreValid : Type 0
 MessagesAreValid = (payload : List ℕ) (message : Message) (used : ℕ) → AreBytes payload → Spells payload message used → Valid message
+
+-- a message that is read lies within the payload, and takes its header at least
+abbrev pub MessagesLieWithin : Type 0
+MessagesLieWithin = (payload : List ℕ) (message : Message) (used : ℕ) → Spells payload message used → (12 ≤ used) × (used ≤ length payload)
+
+-- what a payload spells it spells with more bytes behind it
+abbrev pub MessagesStay : Type 0
+MessagesStay = (payload more : List ℕ) (message : Message) (used : ℕ) → Spells payload message used → Spells (payload ++ more) message used
+
+-- a message that is read from at most 65,535 bytes weighs at most 3,400,000, however its names are compressed
+abbrev pub ReadMessagesAreLight : Type 0
+ReadMessagesAreLight = (payload : List ℕ) (message : Message) (used : ℕ) → Spells payload message used → length payload ≤ 65535 → weight_of message ≤ 3400000
 
 -- RDATA that is read keeps its type's shape, with names without pointers
 abbrev pub RdataKeepsShape : Type 0

@@ -1,5 +1,5 @@
 -- DNS messages (RFC 1035 section 4, RFC 6891 section 6), read from left to right: the first rule that is broken is the answer.
-use Rattle.std.specs.Prelude.{◌≡◌, ℕ, ◌+◌, ◌-◌, ◌*◌, nat_lt, nat_eq, Bool, true, false, ◌&&◌, List, [], ◌++◌, length, take, drop, slice_index, if◌then◌else◌, Option, Some, None, Result, Ok, Err}
+use Rattle.std.specs.Prelude.{◌≡◌, ℕ, ◌+◌, ◌-◌, ◌*◌, nat_lt, nat_eq, Bool, true, false, ◌&&◌, not, List, [], ◌++◌, length, take, drop, slice_index, if◌then◌else◌, Option, Some, None, Result, Ok, Err}
 use Rattle.std.specs.List.{concat}
 use Rattle.cd_name.specs.declared.fault.NameWhy.{NameWhy}
 use Rattle.cd_name.specs.declared.fault.NameWhy.TheVariants as name
@@ -9,11 +9,11 @@ use Rattle.cd_message.specs.declared.message.MsgWhy.TheVariants.{Short, Label, P
 use Rattle.cd_message.specs.declared.message.Question.{Question}
 use Rattle.cd_message.specs.declared.message.Rr.{Rr}
 use Rattle.cd_message.specs.declared.message.Message.{Message}
-use Rattle.cd_message.specs.declared.place.Place.{Place}
 use Rattle.cd_message.specs.declared.shape.Shape as kind
 use Rattle.cd_message.specs.declared.message.TheConstants.{OPT}
 use Rattle.cd_message.specs.Readings.{◌>>=◌, repeat}
 use Rattle.cd_message.specs.Shapes.{shape_of}
+use Rattle.cd_message.specs.Valid.{is_opt}
 
 -- the big-endian number of the two bytes at an offset
 abbrev pub word : List ℕ → ℕ → ℕ
@@ -39,8 +39,8 @@ rdata_why_of name.LongName = LongName
 
 -- a name and the offset behind it, or the rule of messages that is broken
 abbrev pub name_reading : (NameWhy → MsgWhy) → Result (List ℕ × ℕ) NameWhy → Result (List ℕ × ℕ) MsgWhy
-name_reading why_of (Ok x) = Ok x
-name_reading why_of (Err why) = Err (why_of why)
+name_reading told (Ok x) = Ok x
+name_reading told (Err why) = Err (told why)
 
 -- the name at an offset, and the offset behind it
 unfoldable pub name_in : List ℕ → ℕ → Result (List ℕ × ℕ) MsgWhy
@@ -83,12 +83,8 @@ rdata_at rtype payload at end = if nat_eq at end then Ok [] else rdata_of_shape 
 abbrev pub breaks_opt_rule : Bool → ℕ → List ℕ → Bool
 breaks_opt_rule opt_allowed rtype owner = nat_eq rtype OPT && (if opt_allowed then nat_lt 1 (length owner) else true)
 
--- behind an OPT record no second one is allowed
-abbrev pub place_behind : Bool → ℕ → ℕ → Place
-place_behind opt_allowed rtype offset = record { offset = offset; opt_allowed = if nat_eq rtype OPT then false else opt_allowed }
-
--- The record whose owner ends at an offset, and the place behind it: type, class, TTL, the length of the RDATA and the RDATA (RFC 1035 4.1.3).
-unfoldable pub record_behind_owner : List ℕ → Bool → List ℕ → ℕ → Result (Rr × Place) MsgWhy
+-- The record whose owner ends at an offset, and the offset behind it: type, class, TTL, the length of the RDATA and the RDATA (RFC 1035 4.1.3).
+unfoldable pub record_behind_owner : List ℕ → Bool → List ℕ → ℕ → Result (Rr × ℕ) MsgWhy
 record_behind_owner payload opt_allowed owner at =
     let rtype : ℕ = word payload at in
     let start : ℕ = at + 10 in
@@ -100,20 +96,30 @@ record_behind_owner payload opt_allowed owner at =
       rdata ← rdata_at rtype payload start end
       Ok (
         record { owner = owner; rtype = rtype; rclass = word payload (at + 2); ttl = word payload (at + 4) * 65536 + word payload (at + 6); rdata = rdata },
-        place_behind opt_allowed rtype end,
+        end,
       ))))
 
--- the record at a place, and the place behind it
-unfoldable pub record_at : List ℕ → Place → Result (Rr × Place) MsgWhy
-record_at payload place = do
-  owner ← name_in payload place.offset
-  record_behind_owner payload place.opt_allowed owner.0 owner.1
+-- the record at an offset, where an OPT record is allowed or not, and the offset behind it
+unfoldable pub record_at : List ℕ → Bool → ℕ → Result (Rr × ℕ) MsgWhy
+record_at payload opt_allowed at = do
+  owner ← name_in payload at
+  record_behind_owner payload opt_allowed owner.0 owner.1
 
--- the records of a section from an offset on, where an OPT record is allowed or not, and the offset behind them
-abbrev pub section_at : List ℕ → ℕ → Bool → ℕ → Result (List Rr × ℕ) MsgWhy
-section_at payload count opt_allowed at = do
-  records ← repeat (record_at payload) count (record { offset = at; opt_allowed = opt_allowed })
-  Ok (records.0, records.1.offset)
+-- whether an OPT record is allowed behind a record: behind an OPT record no second one is
+abbrev pub opt_allowed_behind : Bool → Rr → Bool
+opt_allowed_behind opt_allowed r = opt_allowed && not (is_opt r)
+
+-- the record at an offset, and behind it the offset and whether an OPT record is allowed there
+abbrev pub record_step : List ℕ → ℕ × Bool → Result (Rr × (ℕ × Bool)) MsgWhy
+record_step payload place = do
+  r ← record_at payload place.1 place.0
+  Ok (r.0, (r.1, opt_allowed_behind place.1 r.0))
+
+-- so many records from an offset on, where an OPT record is allowed or not, and the offset behind them
+abbrev pub records_at : List ℕ → ℕ → Bool → ℕ → Result (List Rr × ℕ) MsgWhy
+records_at payload count opt_allowed at = do
+  records ← repeat (record_step payload) count (at, opt_allowed)
+  Ok (records.0, records.1.0)
 
 -- The message that a payload spells and the number of bytes that it takes, or the first rule that is broken: a header of twelve bytes
 -- with ID, bits and four counts, and so many questions, answers, authority and additional records (RFC 1035 4.1).
@@ -122,9 +128,9 @@ message_of payload =
     if nat_lt (length payload) 12 then Err Short
     else (do
       questions ← repeat (question_at payload) (word payload 4) 12
-      answers ← section_at payload (word payload 6) false questions.1
-      authority ← section_at payload (word payload 8) false answers.1
-      additional ← section_at payload (word payload 10) true authority.1
+      answers ← records_at payload (word payload 6) false questions.1
+      authority ← records_at payload (word payload 8) false answers.1
+      additional ← records_at payload (word payload 10) true authority.1
       Ok (
         record { id = word payload 0; bits = word payload 2; questions = questions.0; answers = answers.0; authority = authority.0; additional = additional.0 },
         additional.1,

@@ -7,8 +7,7 @@ ghost use Rattle.cd_message.specs.Valid.{Valid};
 
 use crate::field::{question_at, word};
 use crate::message::{Message, MsgWhy, ParseFault, Parsed, Question, Rr};
-use crate::place::Place;
-use crate::record::record_at;
+use crate::record::{opt_allowed_behind, record_at};
 use cd_name::List;
 use std::alloc::Global;
 
@@ -38,45 +37,32 @@ fn questions_at(
     Ok((List::from_vec(questions), here))
 }
 
-/// So many records from a place on, and the place behind them.
+/// So many records from an offset on, where an OPT record is allowed or not, and the offset behind them.
 fn records_at(
     alloc: Global,
     payload: &[u8],
     count: u16,
-    start: Place,
-) -> Result<(List<Rr>, Place), ParseFault>
-    ensures { Gives (λ x. (x.0, x.1)) result (repeat (Messages.record_at payload.now) count start) }
+    opt_allowed: bool,
+    at: usize,
+) -> Result<(List<Rr>, usize), ParseFault>
+    ensures { Gives (λ x. (x.0, x.1)) result (Messages.records_at payload.now count opt_allowed at) }
 {
     let mut records = Vec::new(alloc);
-    let mut place = start;
+    let mut allowed = opt_allowed;
+    let mut here = at;
     'records: for _ in 0..count {
-        match record_at(alloc, payload, place) {
+        match record_at(alloc, payload, allowed, here) {
             Err(fault) => return Err(fault),
-            Ok((record, next)) => match records.push(record) {
-                Ok(()) => place = next,
-                Err(_refused) => return Err(ParseFault::NoMemory),
-            },
+            Ok((record, next)) => {
+                allowed = opt_allowed_behind(allowed, &record);
+                match records.push(record) {
+                    Ok(()) => here = next,
+                    Err(_refused) => return Err(ParseFault::NoMemory),
+                }
+            }
         }
     }
-    Ok((List::from_vec(records), place))
-}
-
-/// The records of a section from an offset on, where an OPT record may stand or not, and the offset behind them.
-fn section_at(
-    alloc: Global,
-    payload: &[u8],
-    count: u16,
-    opt_allowed: bool,
-    offset: usize,
-) -> Result<(List<Rr>, usize), ParseFault>
-    ensures { Gives (λ x. (x.0, x.1)) result (Messages.section_at payload.now count opt_allowed offset) }
-{
-    let start = Place {
-        offset,
-        opt_allowed,
-    };
-    let (records, behind) = records_at(alloc, payload, count, start)?;
-    Ok((records, behind.offset))
+    Ok((List::from_vec(records), here))
 }
 
 /// The message that a payload spells, or the first rule that it breaks.
@@ -88,9 +74,9 @@ fn message_of(alloc: Global, payload: &[u8]) -> Result<Parsed, ParseFault>
         return Err(ParseFault::Malformed(MsgWhy::Short));
     }
     let (questions, next) = questions_at(alloc, payload, word(payload, 4), HEADER)?;
-    let (answers, next) = section_at(alloc, payload, word(payload, 6), false, next)?;
-    let (authority, next) = section_at(alloc, payload, word(payload, 8), false, next)?;
-    let (additional, used) = section_at(alloc, payload, word(payload, 10), true, next)?;
+    let (answers, next) = records_at(alloc, payload, word(payload, 6), false, next)?;
+    let (authority, next) = records_at(alloc, payload, word(payload, 8), false, next)?;
+    let (additional, used) = records_at(alloc, payload, word(payload, 10), true, next)?;
     let message = Message {
         id: word(payload, 0),
         bits: word(payload, 2),

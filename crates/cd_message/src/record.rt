@@ -7,7 +7,6 @@ ghost use Rattle.cd_message.specs.Readings.{Gives};
 
 use crate::field::{name_in, word};
 use crate::message::{MsgWhy, OPT, ParseFault, Rr};
-use crate::place::Place;
 use crate::rdata::rdata_at;
 use cd_name::Name;
 use std::alloc::Global;
@@ -19,17 +18,7 @@ fn breaks_opt_rule(opt_allowed: bool, rtype: u16, owner: &Name) -> bool
     rtype == OPT && (!opt_allowed || owner.as_slice().len() > 1)
 }
 
-/// The place behind a record of a type.
-fn place_behind(opt_allowed: bool, rtype: u16, offset: usize) -> Place
-    ensures { result ≡ Messages.place_behind opt_allowed rtype offset }
-{
-    Place {
-        offset,
-        opt_allowed: rtype != OPT && opt_allowed,
-    }
-}
-
-/// The record whose owner ends at an offset, and the place behind it.
+/// The record whose owner ends at an offset, and the offset behind it.
 #[tactic(auto, unfolding(crate::specs::Messages::record_behind_owner))]
 fn record_behind_owner(
     alloc: Global,
@@ -37,7 +26,7 @@ fn record_behind_owner(
     opt_allowed: bool,
     owner: Name,
     at: usize,
-) -> Result<(Rr, Place), ParseFault>
+) -> Result<(Rr, usize), ParseFault>
     requires { at ≤ length payload.now }
     ensures { Gives (λ x. (x.0, x.1)) result (Messages.record_behind_owner payload.now opt_allowed owner at) }
 {
@@ -64,18 +53,26 @@ fn record_behind_owner(
         ttl,
         rdata,
     };
-    Ok((record, place_behind(opt_allowed, rtype, end)))
+    Ok((record, end))
 }
 
-/// The record at a place, and the place behind it.
+/// The record at an offset, where an OPT record is allowed or not, and the offset behind it.
 #[tactic(auto, unfolding(crate::specs::Messages::record_at))]
 pub(crate) fn record_at(
     alloc: Global,
     payload: &[u8],
-    place: Place,
-) -> Result<(Rr, Place), ParseFault>
-    ensures { Gives (λ x. (x.0, x.1)) result (Messages.record_at payload.now place) }
+    opt_allowed: bool,
+    at: usize,
+) -> Result<(Rr, usize), ParseFault>
+    ensures { Gives (λ x. (x.0, x.1)) result (Messages.record_at payload.now opt_allowed at) }
 {
-    let (owner, next) = name_in(alloc, payload, place.offset)?;
-    record_behind_owner(alloc, payload, place.opt_allowed, owner, next)
+    let (owner, next) = name_in(alloc, payload, at)?;
+    record_behind_owner(alloc, payload, opt_allowed, owner, next)
+}
+
+/// Whether an OPT record is allowed behind a record: behind an OPT record no second one is (RFC 6891 6.1.1).
+pub(crate) fn opt_allowed_behind(opt_allowed: bool, behind: &Rr) -> bool
+    ensures { result ≡ Messages.opt_allowed_behind opt_allowed behind.now }
+{
+    opt_allowed && behind.rtype != OPT
 }

@@ -7,16 +7,19 @@ pub struct Shape {
     pub before: usize,
     pub names: usize,
     pub behind: usize,
+    /// Whether the names are compressed where a message is written (RFC 3597 section 4).
+    pub compressed: bool,
 }
 
 impl Shape {
-    fn new(before: usize, names: usize, behind: usize) -> Shape
-        ensures { Some result ≡ Shapes.shape before names behind }
+    fn new(before: usize, names: usize, behind: usize, compressed: bool) -> Shape
+        ensures { Some result ≡ Shapes.shape before names behind compressed }
     {
         Shape {
             before,
             names,
             behind,
+            compressed,
         }
     }
 }
@@ -28,17 +31,21 @@ pub fn shape_of(rtype: u16) -> Option<Shape>
 {
     match rtype {
         // NS, MD, MF, CNAME, MB, MG, MR, PTR
-        2 | 3 | 4 | 5 | 7 | 8 | 9 | 12 => Some(Shape::new(0, 1, 0)),
+        2 | 3 | 4 | 5 | 7 | 8 | 9 | 12 => Some(Shape::new(0, 1, 0, true)),
         // SOA
-        6 => Some(Shape::new(0, 2, 20)),
-        // MINFO, RP
-        14 | 17 => Some(Shape::new(0, 2, 0)),
-        // MX, AFSDB, RT
-        15 | 18 | 21 => Some(Shape::new(2, 1, 0)),
+        6 => Some(Shape::new(0, 2, 20, true)),
+        // MINFO
+        14 => Some(Shape::new(0, 2, 0, true)),
+        // MX
+        15 => Some(Shape::new(2, 1, 0, true)),
+        // RP
+        17 => Some(Shape::new(0, 2, 0, false)),
+        // AFSDB, RT
+        18 | 21 => Some(Shape::new(2, 1, 0, false)),
         // PX
-        26 => Some(Shape::new(2, 2, 0)),
+        26 => Some(Shape::new(2, 2, 0, false)),
         // SRV
-        33 => Some(Shape::new(6, 1, 0)),
+        33 => Some(Shape::new(6, 1, 0, false)),
         _ => None,
     }
 }
