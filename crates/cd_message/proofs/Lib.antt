@@ -3,3 +3,4 @@ pub mod Binds
 pub mod RdataShapes
 pub mod Valid
 pub mod OneAnswer
+pub mod Within
