@@ -4,3 +4,4 @@ pub mod RdataShapes
 pub mod Valid
 pub mod OneAnswer
 pub mod Within
+pub mod Weights

@@ -31,7 +31,7 @@ word_fits : (p : List ℕ) (k : ℕ) → AreBytes p → word p k ≤ 65535
 word_fits p k bytes = omega (arith, bytes k, bytes (k + 1))
 
 -- at most 6 bytes, 2 names and 20 bytes
-abbrev IsSmall : Option kind.Shape → Type 0
+abbrev pub IsSmall : Option kind.Shape → Type 0
 IsSmall None = Unit {0}
 IsSmall (Some s) = (s.before ≤ 6) × (s.names ≤ 2) × (s.behind ≤ 20)
 
@@ -45,7 +45,7 @@ shape_is_small : (before names behind : ℕ) (compressed : Bool) → before ≤ 
 shape_is_small before names behind compressed h k m = (h, k, m)
 
 -- each shape is small
-shapes_are_small : (t : ℕ) → IsSmall (shape_of t)
+pub shapes_are_small : (t : ℕ) → IsSmall (shape_of t)
 unfolding shape_of
 shapes_are_small t =
     choice_is_small (holds_name t) (shape 0 1 0 true) _ (shape_is_small 0 1 0 true (omega arith) (omega arith) (omega arith))
