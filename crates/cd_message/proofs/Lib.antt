@@ -5,3 +5,4 @@ pub mod Valid
 pub mod OneAnswer
 pub mod Within
 pub mod Weights
+pub mod Longer
