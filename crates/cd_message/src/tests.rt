@@ -1,3 +1,6 @@
+ghost use Rattle.std.specs.Prelude.{IfOk};
+ghost use Rattle.cd_message.specs.Valid.{Valid};
+
 use crate::{Message, MsgWhy, ParseFault, Parsed, Rr, parse, weight};
 use std::alloc::{AllocError, Global};
 use std::process::Abort;
@@ -43,51 +46,91 @@ fn expect_question(rt: &impl Abort, message: &Message) {
     }
 }
 
-#[test]
-fn a_query_is_read(rt: HostRuntime) {
-    match parse(rt.alloc(), QUERY) {
+/// Compares the query.
+fn expect_query(rt: &impl Abort, parsed: Result<Parsed, ParseFault>) {
+    match parsed {
         Ok(parsed) => {
             assert_eq!(rt; parsed.used, 44);
             let message = parsed.message;
             assert_eq!(rt; message.id, 0x1a2b);
             assert_eq!(rt; message.bits, 0x0120);
-            expect_question(&rt, &message);
+            expect_question(rt, &message);
             assert_eq!(rt; message.answers.as_slice().len(), 0);
             assert_eq!(rt; message.authority.as_slice().len(), 0);
             match message.additional.as_slice() {
-                [opt] => expect_record(&rt, opt, b"\x00", (41, 1232, 0), b""),
+                [opt] => expect_record(rt, opt, b"\x00", (41, 1232, 0), b""),
                 _ => assert!(rt; false),
             }
-            assert_eq!(rt; weight(&message), 386);
         }
         Err(_fault) => assert!(rt; false),
     }
 }
 
-#[test]
-fn a_response_is_read(rt: HostRuntime) {
-    match parse(rt.alloc(), RESPONSE) {
+/// Compares the response.
+fn expect_response(rt: &impl Abort, parsed: Result<Parsed, ParseFault>) {
+    match parsed {
         Ok(parsed) => {
             assert_eq!(rt; parsed.used, 60);
             let message = parsed.message;
             assert_eq!(rt; message.id, 0x1a2b);
             assert_eq!(rt; message.bits, 0x8180);
-            expect_question(&rt, &message);
+            expect_question(rt, &message);
             match message.answers.as_slice() {
-                [answer] => {
-                    expect_record(&rt, answer, NAME, (1, 1, 300), b"\xc0\x00\x02\x50");
-                }
+                [answer] => expect_record(rt, answer, NAME, (1, 1, 300), b"\xc0\x00\x02\x50"),
                 _ => assert!(rt; false),
             }
             assert_eq!(rt; message.authority.as_slice().len(), 0);
             match message.additional.as_slice() {
-                [opt] => expect_record(&rt, opt, b"\x00", (41, 1232, 0), b""),
+                [opt] => expect_record(rt, opt, b"\x00", (41, 1232, 0), b""),
                 _ => assert!(rt; false),
             }
-            assert_eq!(rt; weight(&message), 471);
         }
         Err(_fault) => assert!(rt; false),
     }
+}
+
+/// Some bytes, and then some others.
+fn joined(alloc: Global, front: &[u8], behind: &[u8]) -> Result<Vec<u8>, AllocError> {
+    let mut bytes = Vec::from_slice(alloc, front)?;
+    bytes.extend_from_slice(behind)?;
+    Ok(bytes)
+}
+
+/// What may stand behind a message, which takes none of it.
+const BEHIND: [&[u8]; 4] = [b"", b"\x00", b"\xff", b"\xc0\xff"];
+
+#[test]
+fn a_query_is_read(rt: HostRuntime) -> Result<(), AllocError> {
+    for behind in BEHIND {
+        let payload = joined(rt.alloc(), QUERY, behind)?;
+        expect_query(&rt, parse(rt.alloc(), &payload));
+    }
+    Ok(())
+}
+
+#[test]
+fn a_response_is_read(rt: HostRuntime) -> Result<(), AllocError> {
+    for behind in BEHIND {
+        let payload = joined(rt.alloc(), RESPONSE, behind)?;
+        expect_response(&rt, parse(rt.alloc(), &payload));
+    }
+    Ok(())
+}
+
+/// The weight of the message that a payload spells, or 0 for a payload that spells none.
+fn weight_of(parsed: Result<Parsed, ParseFault>) -> u64
+    requires { IfOk parsed (λ p. Valid p.message) }
+{
+    match parsed {
+        Ok(parsed) => weight(&parsed.message),
+        Err(_fault) => 0,
+    }
+}
+
+#[test]
+fn messages_are_weighed(rt: HostRuntime) {
+    assert_eq!(rt; weight_of(parse(rt.alloc(), QUERY)), 386);
+    assert_eq!(rt; weight_of(parse(rt.alloc(), RESPONSE)), 471);
 }
 
 /// The rule that a payload breaks first.
@@ -189,9 +232,7 @@ fn the_first_rule_broken_is_told(rt: HostRuntime) {
 
 /// A message with one answer, of which the type and all behind it are given.
 fn message_with_answer(alloc: Global, behind_owner: &[u8]) -> Result<Vec<u8>, AllocError> {
-    let mut payload = Vec::from_slice(alloc, ANSWER)?;
-    payload.extend_from_slice(behind_owner)?;
-    Ok(payload)
+    joined(alloc, ANSWER, behind_owner)
 }
 
 /// Answers behind their owner, and the rule that each breaks first.
@@ -326,25 +367,29 @@ fn zeros(alloc: Global, count: usize) -> Result<Vec<u8>, AllocError> {
 }
 
 #[test]
-fn bytes_behind_the_last_record_are_left(rt: HostRuntime) -> Result<(), AllocError> {
-    let mut payload = Vec::from_slice(rt.alloc(), QUERY)?;
-    payload.extend_from_slice(b"\xc0\xff")?;
-    assert_eq!(rt; used_of(parse(rt.alloc(), &payload)), 44);
+fn bytes_behind_a_header_are_left(rt: HostRuntime) -> Result<(), AllocError> {
     let largest = zeros(rt.alloc(), 65535)?;
     assert_eq!(rt; used_of(parse(rt.alloc(), &largest)), 12);
     Ok(())
 }
 
-/// A question for a name of three labels of 63 bytes and one of `last` bytes.
-fn question_of_labels(alloc: Global, last: u8) -> Result<Vec<u8>, AllocError> {
-    let mut payload = Vec::from_slice(alloc, b"\x00\x07\x01\x00\x00\x01\x00\x00\x00\x00\x00\x00")?;
+/// Appends three labels of 63 bytes, one of `last` bytes, and the root.
+fn push_labels(payload: &mut Vec<u8>, last: u8) -> Result<(), AllocError> {
     for size in [63, 63, 63, last] {
         payload.push(size)?;
         for _ in 0..size {
             payload.push(b'a')?;
         }
     }
-    payload.extend_from_slice(b"\x00\x00\x01\x00\x01")?;
+    payload.push(0)?;
+    Ok(())
+}
+
+/// A question for a name of three labels of 63 bytes and one of `last` bytes.
+fn question_of_labels(alloc: Global, last: u8) -> Result<Vec<u8>, AllocError> {
+    let mut payload = Vec::from_slice(alloc, b"\x00\x07\x01\x00\x00\x01\x00\x00\x00\x00\x00\x00")?;
+    push_labels(&mut payload, last)?;
+    payload.extend_from_slice(b"\x00\x01\x00\x01")?;
     Ok(payload)
 }
 
@@ -354,5 +399,39 @@ fn a_name_of_255_bytes(rt: HostRuntime) -> Result<(), AllocError> {
     assert_eq!(rt; used_of(parse(rt.alloc(), &longest)), 271);
     let long = question_of_labels(rt.alloc(), 63)?;
     assert_eq!(rt; why_of(parse(rt.alloc(), &long)), Some(MsgWhy::LongName));
+    Ok(())
+}
+
+/// A message whose one answer is a CNAME record with RDATA of so many bytes, of four labels of 63 bytes and the root: 257 bytes.
+fn answer_of_labels(alloc: Global, rdata_size: u16) -> Result<Vec<u8>, AllocError> {
+    let mut payload = message_with_answer(alloc, b"\x00\x05\x00\x01\x00\x00\x00\x00")?;
+    payload.extend_from_slice(&rdata_size.to_be_bytes())?;
+    push_labels(&mut payload, 63)?;
+    Ok(payload)
+}
+
+/// Where RDATA ends among four labels of 63 bytes, and the rule that is broken first.
+const LONG_NAMES_IN_RDATA: [(u16, MsgWhy); 6] = [
+    // behind the payload
+    (258, MsgWhy::Short),
+    // behind the root, and before it
+    (257, MsgWhy::LongName),
+    (256, MsgWhy::LongName),
+    // in the fourth label, behind its length byte, and before it
+    (255, MsgWhy::Shape),
+    (193, MsgWhy::Shape),
+    (192, MsgWhy::Shape),
+];
+
+#[test]
+fn a_long_name_in_rdata(rt: HostRuntime) -> Result<(), AllocError> {
+    for (rdata_size, why) in LONG_NAMES_IN_RDATA {
+        let payload = answer_of_labels(rt.alloc(), rdata_size)?;
+        assert_eq!(rt;
+            why_of(parse(rt.alloc(), &payload)),
+            Some(why),
+            "at {rdata_size}"
+        );
+    }
     Ok(())
 }
