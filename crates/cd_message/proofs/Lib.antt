@@ -2,6 +2,16 @@ pub mod Repeats
 pub mod Binds
 pub mod RdataShapes
 pub mod Valid
+pub mod Decides
+pub mod EachByRules
+pub mod NamesByRules
+pub mod QuestionsByRules
+pub mod RdataNames
+pub mod RdataByRules
+pub mod OptRule
+pub mod RecordsByRules
+pub mod SectionsByRules
+pub mod MessagesByRules
 pub mod OneAnswer
 pub mod Within
 pub mod Weights

@@ -110,7 +110,7 @@ never_true true c e h = absurd (cc h)
 never_true false c e h = absurd (cc (e, h))
 
 -- a name of one byte is the root
-one_byte_is_root : (name : List ℕ) → IsName name → nat_lt 1 (length name) ≡ false → name ≡ 0 ∷ []
+pub one_byte_is_root : (name : List ℕ) → IsName name → nat_lt 1 (length name) ≡ false → name ≡ 0 ∷ []
 unfolding are_labels_and_root
 one_byte_is_root [] is one = absurd (cc is.0)
 one_byte_is_root (n ∷ []) is one =
@@ -141,7 +141,7 @@ opts_from true = 1
 opts_from false = 0
 
 -- how many OPT records a record is
-abbrev opts_of : Rr → ℕ
+abbrev pub opts_of : Rr → ℕ
 opts_of r = cond (is_opt r) 1 0
 
 -- an OPT record takes the leave for one

@@ -21,7 +21,10 @@ mod shape;
 mod tests;
 mod weighing;
 
-pub use law::{each_payload_has_one_answer, messages_are_valid, rdata_keeps_its_shape};
+pub use law::{
+    each_payload_has_one_answer, messages_are_valid, messages_follow_the_rules,
+    rdata_keeps_its_shape,
+};
 pub use message::{Message, MsgWhy, OPT, ParseFault, Parsed, Question, Rr};
 pub use message_reading::parse;
 pub use shape::Shape;
