@@ -1,8 +1,7 @@
 -- Laws of the reading of messages.
-use Rattle.std.specs.Prelude.{◌≡◌, ℕ, ◌≤◌, ◌<◌, List, ◌++◌, length, slice_index, Ok, ◌⊎◌}
-use Rattle.cd_message.specs.declared.message.MsgWhy.{MsgWhy}
+use Rattle.std.specs.Prelude.{◌≡◌, ℕ, ◌≤◌, ◌<◌, List, ◌++◌, length, slice_index, Ok}
 use Rattle.cd_message.specs.declared.message.Message.{Message}
-use Rattle.cd_message.specs.Messages.{Spells, Breaks, rdata_at}
+use Rattle.cd_message.specs.Messages.{Spells, rdata_at}
 use Rattle.cd_message.specs.Shapes.{shape_of}
 use Rattle.cd_message.specs.Valid.{Valid, KeepsShape}
 use Rattle.cd_message.specs.Weights.{weight_of}
@@ -35,22 +34,3 @@ RdataKeepsShape = (rtype : ℕ) (payload : List ℕ) (at end : ℕ) (rdata : Lis
 -- RDATA that keeps its type's shape is read as itself, if it stands alone
 abbrev pub ShapedRdataIsItself : Type 0
 ShapedRdataIsItself = (rtype : ℕ) (rdata : List ℕ) → KeepsShape (shape_of rtype) rdata → rdata_at rtype rdata 0 (length rdata) ≡ Ok rdata
-
--- The payload spells one message, in one number of bytes, and breaks no rule.
-pub record SpellsOne (payload : List ℕ) : Type 0 where
-  pub message : Message
-  pub used : ℕ
-  pub spells : Spells payload message used
-  pub no_other : (m : Message) (n : ℕ) → Spells payload m n → (m ≡ message) × (n ≡ used)
-  pub breaks_none : (why : MsgWhy) → Breaks payload why → ⊥
-
--- The payload breaks one rule first, and spells no message.
-pub record BreaksOne (payload : List ℕ) : Type 0 where
-  pub why : MsgWhy
-  pub breaks : Breaks payload why
-  pub no_other : (w : MsgWhy) → Breaks payload w → w ≡ why
-  pub spells_none : (m : Message) (n : ℕ) → Spells payload m n → ⊥
-
--- Each payload spells one message or breaks one rule first, and never both.
-abbrev pub OneAnswerEach : Type 0
-OneAnswerEach = (payload : List ℕ) → SpellsOne payload ⊎ BreaksOne payload

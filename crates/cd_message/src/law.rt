@@ -1,7 +1,7 @@
 //! Laws of the reading of messages, each the contract of a function that does nothing.
 
-ghost use Rattle.cd_message.specs.MessageLaws.{MessagesAreValid, RdataKeepsShape, ShapedRdataIsItself, OneAnswerEach};
-ghost use Rattle.cd_message.specs.Rules.{SpelledByRules, BrokenByRules};
+ghost use Rattle.cd_message.specs.MessageLaws.{MessagesAreValid, RdataKeepsShape, ShapedRdataIsItself};
+ghost use Rattle.cd_message.specs.Rules.{SpelledByRules, BrokenByRules, RulesGiveOne};
 
 /// A message that is read is valid.
 pub fn messages_are_valid()
@@ -14,14 +14,15 @@ pub fn rdata_keeps_its_shape()
     ensures itself { ShapedRdataIsItself }
 {}
 
-/// Each payload spells one message, in one number of bytes, or breaks one rule first, and never both.
-pub fn each_payload_has_one_answer()
-    ensures { OneAnswerEach }
-{}
-
 /// What is read is what the rules give, one by one, and so is the first rule that is broken (RFC 1035 section 4,
 /// RFC 6891 section 6).
 pub fn messages_follow_the_rules()
     ensures spelled { SpelledByRules }
     ensures broken { BrokenByRules }
+{}
+
+/// For each payload the rules give exactly one message with the number of its bytes, or exactly one first rule that is
+/// broken, and never both.
+pub fn rules_give_one()
+    ensures { RulesGiveOne }
 {}

@@ -22,8 +22,7 @@ mod tests;
 mod weighing;
 
 pub use law::{
-    each_payload_has_one_answer, messages_are_valid, messages_follow_the_rules,
-    rdata_keeps_its_shape,
+    messages_are_valid, messages_follow_the_rules, rdata_keeps_its_shape, rules_give_one,
 };
 pub use message::{Message, MsgWhy, OPT, ParseFault, Parsed, Question, Rr};
 pub use message_reading::parse;
