@@ -1,9 +1,9 @@
-ghost use Rattle.std.specs.Prelude.{◌<◌, ◌≤◌, length};
+ghost use Rattle.std.specs.Prelude.{◌<◌, ◌≤◌, length, IfOk};
 ghost use Rattle.cd_message.specs.Valid.{Valid};
 ghost use Rattle.cd_edns.specs.Opts.{HasNoOpt};
 
 use crate::{Opt, full_rcode, opt_of, put_opt};
-use cd_message::{Message, parse};
+use cd_message::{Message, ParseFault, Parsed, parse};
 use cd_name::Blob;
 use std::alloc::{AllocError, Global};
 use std::process::Abort;
@@ -72,6 +72,48 @@ fn an_extended_rcode(rt: HostRuntime) -> Result<(), AllocError> {
         Err(_fault) => assert!(rt; false),
     }
     Ok(())
+}
+
+/// The full RCODE of the message that a payload spells, or none for a payload that spells no message.
+fn rcode_of(parsed: Result<Parsed, ParseFault>) -> Option<u16>
+    requires { IfOk parsed (λ p. Valid p.message) }
+{
+    match parsed {
+        Ok(parsed) => Some(full_rcode(&parsed.message)),
+        Err(_fault) => None,
+    }
+}
+
+/// Responses, and the full RCODE of each.
+const RCODES: [(&[u8], u16); 6] = [
+    // no OPT record, and the low bits 0 and 15
+    (b"\x1a\x2b\x81\x80\x00\x00\x00\x00\x00\x00\x00\x00", 0),
+    (b"\x1a\x2b\x81\x8f\x00\x00\x00\x00\x00\x00\x00\x00", 15),
+    // an OPT record with the extended bits 0, and the low bits 0 and 15
+    (
+        b"\x1a\x2b\x81\x80\x00\x00\x00\x00\x00\x00\x00\x01\x00\x00\x29\x10\x00\x00\x00\x00\x00\x00\x00",
+        0,
+    ),
+    (
+        b"\x1a\x2b\x81\x8f\x00\x00\x00\x00\x00\x00\x00\x01\x00\x00\x29\x10\x00\x00\x00\x00\x00\x00\x00",
+        15,
+    ),
+    // an OPT record with the extended bits 255, and the low bits 0 and 15
+    (
+        b"\x1a\x2b\x81\x80\x00\x00\x00\x00\x00\x00\x00\x01\x00\x00\x29\x10\x00\xff\x00\x00\x00\x00\x00",
+        4080,
+    ),
+    (
+        b"\x1a\x2b\x81\x8f\x00\x00\x00\x00\x00\x00\x00\x01\x00\x00\x29\x10\x00\xff\x00\x00\x00\x00\x00",
+        4095,
+    ),
+];
+
+#[test]
+fn full_rcodes(rt: HostRuntime) {
+    for (payload, rcode) in RCODES {
+        assert_eq!(rt; rcode_of(parse(rt.alloc(), payload)), Some(rcode));
+    }
 }
 
 /// Puts an OPT record into a message, and reads it back.
