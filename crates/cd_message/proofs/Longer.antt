@@ -1,4 +1,4 @@
--- What the rules read stays where more bytes stand behind the payload.
+-- What is read stays where more bytes stand behind the payload.
 use Rattle.std.proofs.Common.{◌≡◌, ℕ, ◌+◌, ◌-◌, ◌≤◌, ◌<◌, List, ◌++◌, length, take, drop, refl, ap, ◌∙◌, sym, arith, length-append}
 use Rattle.std.proofs.lemmas.List.{get_or_append_left, take-append-le, drop-append-le, length-drop}
 use Rattle.cd_name.proofs.Longer.{names_stay}
@@ -6,7 +6,9 @@ use Rattle.cd_message.specs.declared.message.Question.{Question}
 use Rattle.cd_message.specs.declared.message.Rr.{Rr}
 use Rattle.cd_message.specs.declared.message.Message.{Message}
 use Rattle.cd_message.specs.Messages.{word, bytes_at}
+use Rattle.cd_message.specs.MessageLaws.{MessagesStay}
 use Rattle.cd_message.specs.Rules.{ReadsEach, none, one_more, ReadsQuestion, RdataNameAt, ReadsRdata, empty, any_bytes, shaped, ReadsRecord, ReadsSection, ReadsMessage}
+use Rattle.cd_message.proofs.MessagesByRules.{spelled_by_rules}
 
 -- a number of two bytes that are there stays
 word_stays : (p more : List ℕ) (at : ℕ) → at + 1 < length p → word (p ++ more) at ≡ word p at
@@ -70,8 +72,8 @@ section_stays : (p more : List ℕ) (opts count again at : ℕ) (records : List 
 section_stays p more opts count again at records end same reads =
     record { are_read = rw same (each_stays (record_stays p more) reads.are_read); opt_rule = reads.opt_rule }
 
--- a message that is read is read with more bytes behind
-pub stays : (p more : List ℕ) (m : Message) (used : ℕ) → ReadsMessage p m used → ReadsMessage (p ++ more) m used
+-- a message that the rules read they read with more bytes behind
+stays : (p more : List ℕ) (m : Message) (used : ℕ) → ReadsMessage p m used → ReadsMessage (p ++ more) m used
 stays p more m used reads =
     record {
       questions_end = reads.questions_end;
@@ -85,3 +87,7 @@ stays p more m used reads =
       has_authority = section_stays p more 0 _ _ reads.answers_end m.authority reads.authority_end (word_stays p more 8 (omega (arith, reads.header))) reads.has_authority;
       has_additional = section_stays p more 1 _ _ reads.authority_end m.additional used (word_stays p more 10 (omega (arith, reads.header))) reads.has_additional;
     }
+
+-- the law on messages with more bytes behind them
+pub messages_stay : MessagesStay
+messages_stay p more m used h = (spelled_by_rules (p ++ more) m used).1 (stays p more m used ((spelled_by_rules p m used).0 h))

@@ -1,10 +1,12 @@
--- A message that the rules read lies within its payload.
+-- A message that is read lies within its payload.
 use Rattle.std.proofs.Common.{ℕ, ◌≤◌, List, length, arith}
 use Rattle.cd_name.proofs.Names.{names_are_names}
 use Rattle.cd_message.specs.declared.message.Question.{Question}
 use Rattle.cd_message.specs.declared.message.Rr.{Rr}
 use Rattle.cd_message.specs.declared.message.Message.{Message}
+use Rattle.cd_message.specs.MessageLaws.{MessagesLieWithin}
 use Rattle.cd_message.specs.Rules.{ReadsEach, none, one_more, ReadsQuestion, ReadsRecord, ReadsSection, ReadsMessage}
+use Rattle.cd_message.proofs.MessagesByRules.{spelled_by_rules}
 
 -- an offset and one that is not before it, nor past the payload's end
 abbrev LiesWithin : List ℕ → ℕ → ℕ → Type 0
@@ -33,7 +35,7 @@ record_lies_within p at r next reads =
 section_lies_within : (p : List ℕ) (opts count at : ℕ) (records : List Rr) (end : ℕ) → at ≤ length p → ReadsSection p opts count at records end → LiesWithin p at end
 section_lies_within p opts count at records end here reads = each_lies_within p (record_lies_within p) here reads.are_read
 
--- a message that is read lies within the payload, and takes its header at least
+-- a message that the rules read lies within the payload, and takes its header at least
 pub lies_within : (p : List ℕ) (m : Message) (used : ℕ) → ReadsMessage p m used → (12 ≤ used) × (used ≤ length p)
 lies_within p m used reads =
     let questions = each_lies_within p (question_lies_within p) reads.header reads.has_questions in
@@ -41,3 +43,7 @@ lies_within p m used reads =
     let authority = section_lies_within p 0 _ reads.answers_end m.authority reads.authority_end answers.1 reads.has_authority in
     let additional = section_lies_within p 1 _ reads.authority_end m.additional used authority.1 reads.has_additional in
     (omega (arith, questions.0, answers.0, authority.0, additional.0), additional.1)
+
+-- the law on the place of messages that are read
+pub messages_lie_within : MessagesLieWithin
+messages_lie_within p m used h = lies_within p m used ((spelled_by_rules p m used).0 h)

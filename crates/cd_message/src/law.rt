@@ -1,11 +1,26 @@
 //! Laws of the reading of messages, each the contract of a function that does nothing.
 
-ghost use Rattle.cd_message.specs.MessageLaws.{MessagesAreValid, RdataKeepsShape, ShapedRdataIsItself};
+ghost use Rattle.cd_message.specs.MessageLaws.{MessagesAreValid, MessagesLieWithin, MessagesStay, ReadMessagesAreLight, RdataKeepsShape, ShapedRdataIsItself};
 ghost use Rattle.cd_message.specs.Rules.{SpelledByRules, BrokenByRules, RulesGiveOne};
 
 /// A message that is read is valid.
 pub fn messages_are_valid()
     ensures { MessagesAreValid }
+{}
+
+/// A message that is read lies within the payload, and takes its header at least.
+pub fn messages_lie_within()
+    ensures { MessagesLieWithin }
+{}
+
+/// What a payload spells it spells with more bytes behind it, in as many bytes.
+pub fn messages_stay()
+    ensures { MessagesStay }
+{}
+
+/// A message that is read from at most 65,535 bytes weighs at most 3,400,000, however its names are compressed.
+pub fn read_messages_are_light()
+    ensures { ReadMessagesAreLight }
 {}
 
 /// RDATA that is read keeps its type's shape, with names without pointers, and alone it is read as itself.

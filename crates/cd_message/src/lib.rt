@@ -22,7 +22,8 @@ mod tests;
 mod weighing;
 
 pub use law::{
-    messages_are_valid, messages_follow_the_rules, rdata_keeps_its_shape, rules_give_one,
+    messages_are_valid, messages_follow_the_rules, messages_lie_within, messages_stay,
+    rdata_keeps_its_shape, read_messages_are_light, rules_give_one,
 };
 pub use message::{Message, MsgWhy, OPT, ParseFault, Parsed, Question, Rr};
 pub use message_reading::parse;

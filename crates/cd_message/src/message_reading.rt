@@ -1,6 +1,6 @@
 //! Reads a whole message (RFC 1035 4.1).
 
-ghost use Rattle.std.specs.Prelude.{◌≡◌, IfOk};
+ghost use Rattle.std.specs.Prelude.{◌≡◌, ◌≤◌, length, IfOk};
 ghost use Rattle.cd_message.specs.Messages;
 ghost use Rattle.cd_message.specs.Readings.{Gives, repeat};
 ghost use Rattle.cd_message.specs.Valid.{Valid};
@@ -101,6 +101,7 @@ fn message_of(alloc: Global, payload: &[u8]) -> Result<Parsed, ParseFault>
 pub fn parse(alloc: Global, payload: &[u8]) -> Result<Parsed, ParseFault>
     ensures exact { Gives (λ p. (p.message, p.used)) result (Messages.message_of payload.now) }
     ensures valid { IfOk result (λ p. Valid p.message) }
+    ensures within { IfOk result (λ p. (12 ≤ p.used) × (p.used ≤ length payload.now)) }
 {
     let parsed = message_of(alloc, payload)?;
     Ok(parsed)
