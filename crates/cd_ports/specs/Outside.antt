@@ -9,6 +9,10 @@ use Rattle.cd_ports.specs.declared.std_ports.StdSink.{StdSink}
 abbrev pub std_source : {R : Type 0} → StdSource R → SourceMeaning
 std_source s = record { left = None; faults = s.faults; ended = s.ended; failed = s.failed; calls = s.calls; late = s.late }
 
+-- the reader below
+abbrev pub std_source_reader : {R : Type 0} → StdSource R → R
+std_source_reader s = s.inner
+
 -- a new source that tells no bytes
 abbrev pub silent_source : SourceMeaning
 silent_source = record { left = None; faults = 0; ended = false; failed = false; calls = 0; late = false }

@@ -1,7 +1,10 @@
 //! The adapters of std's readers and writers, where the program meets the outside.
 
-ghost use Rattle.std.specs.Io.KnownBytes.{Appends};
-ghost use Rattle.std.specs.Prelude.{OnOk, IsOkUnless, ◌≡◌, None, false, length, ◌≤◌};
+ghost use Rattle.std.specs.Io.{ReadsAtMost};
+ghost use Rattle.std.specs.Io.KnownBytes.{Appends, ReadConsumes};
+ghost use Rattle.std.specs.Prelude.{OnOk, IsOkUnless, is_err, ◌≡◌, ◌&&◌, ◌||◌, None, false, length, ◌≤◌};
+ghost use Rattle.cd_ports.specs.Counter.{next_count};
+ghost use Rattle.cd_ports.specs.Reading.{HasCause, tells_end, gives_byte};
 
 use crate::{Failed, Sink, SinkFault, Source};
 use std::io::{Read, Write};
@@ -18,11 +21,12 @@ pub struct StdSource<R> {
 }
 
 impl<R> StdSource<R> {
-    ghost use Rattle.cd_ports.specs.Outside.{std_source, silent_source};
+    ghost use Rattle.cd_ports.specs.Outside.{std_source, std_source_reader, silent_source};
 
     /// A source over this reader. Each call of `read` is one call of the reader's.
     pub fn new(inner: R) -> StdSource<R>
-        ensures { std_source result ≡ silent_source }
+        ensures meaning { std_source result ≡ silent_source }
+        ensures reader { std_source_reader result ≡ inner }
     {
         StdSource {
             inner,
@@ -36,11 +40,22 @@ impl<R> StdSource<R> {
 }
 
 impl<R: Read> Source for StdSource<R> {
-    ghost use Rattle.cd_ports.specs.Outside.{std_source};
+    ghost use Rattle.cd_ports.specs.Outside.{std_source, std_source_reader};
 
     ghost means = { std_source };
 
-    fn read(&mut self, buf: &mut [u8]) -> Result<usize, Failed> {
+    fn read(&mut self, buf: &mut [u8]) -> Result<usize, Failed>
+        ensures bound { ReadsAtMost result buf.new }
+        ensures bytes { ReadConsumes (std_source self.old).left (std_source self.new).left result buf.new }
+        ensures cause { HasCause (std_source self.old).faults (std_source self.new).faults result }
+        ensures ended { (std_source self.new).ended ≡ tells_end result buf.new }
+        ensures failed { (std_source self.new).failed ≡ ((std_source self.old).failed || is_err result) }
+        ensures calls { (std_source self.new).calls ≡ next_count (std_source self.old).calls }
+        ensures late { (std_source self.new).late
+            ≡ ((std_source self.old).late || ((std_source self.old).failed && gives_byte result)) }
+        // Where the reader tells what it has left, what it gave is in the buffer.
+        ensures through { ReadConsumes (R.remaining (std_source_reader self.old)) (R.remaining (std_source_reader self.new)) result buf.new }
+    {
         self.calls = self.calls.saturating_add(1);
         match self.inner.read(buf) {
             Ok(count) => {
@@ -67,11 +82,12 @@ pub struct StdSink<W> {
 }
 
 impl<W> StdSink<W> {
-    ghost use Rattle.cd_ports.specs.Outside.{std_sink, silent_sink};
+    ghost use Rattle.cd_ports.specs.Outside.{std_sink, std_sink_writer, silent_sink};
 
     /// A sink over this writer.
     pub fn new(inner: W) -> StdSink<W>
-        ensures { std_sink result ≡ silent_sink }
+        ensures meaning { std_sink result ≡ silent_sink }
+        ensures writer { std_sink_writer result ≡ inner }
     {
         StdSink {
             inner,

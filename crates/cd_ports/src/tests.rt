@@ -58,3 +58,14 @@ fn std_streams_are_adapted(rt: HostRuntime) {
     let mut out = StdSink::new(rt.stdout());
     assert!(rt; out.write(b"written\n") == Ok(()));
 }
+
+#[test]
+fn a_std_reader_is_read_to_its_end(rt: HostRuntime) {
+    let mut src = StdSource::new(b"abcde".as_slice());
+    let mut buf = [0u8; 3];
+    assert!(rt; src.read(&mut buf) == Ok(3));
+    assert!(rt; buf == *b"abc");
+    assert!(rt; src.read(&mut buf) == Ok(2));
+    assert!(rt; buf == *b"dec");
+    assert!(rt; src.read(&mut buf) == Ok(0));
+}
