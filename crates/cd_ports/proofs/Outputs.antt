@@ -1,15 +1,12 @@
 -- Several outputs as one.
 use Rattle.std.proofs.Common.{◌≡◌, ℕ, ◌≤◌, Bool, true, false, ◌||◌, List, [], ◌++◌, Result, Ok, refl, ap, sym, ◌∙◌, arith, is_err}
+use Rattle.std.proofs.Math.Bool.{or-false, or_assoc}
+use Rattle.std.proofs.KnownBytes.{Appends-nil}
 use Rattle.std.proofs.lemmas.Bool.{false≢true}
 use Rattle.cd_ports.specs.declared.sink.SinkFault.{SinkFault}
-use Rattle.cd_ports.specs.declared.sink.SinkFault.TheVariants.{NoMemory}
 use Rattle.cd_ports.specs.Writing.{SinkMeaning, WriteStep, OutputStep, is_failure}
 use Rattle.cd_ports.specs.Counter.{next_count}
-use Rattle.cd_ports.proofs.Steps.{prefix_none, prefix_longer, sent_none, writes_then, stopped, or_assoc, same_failure, same_kind}
-
-or_false : (x : Bool) → x ≡ (x || false)
-or_false true = refl
-or_false false = refl
+use Rattle.cd_ports.proofs.Steps.{prefix_longer, writes_then, stopped, same_failure, same_kind}
 
 -- one write
 pub output_of_step : {T : Type 0} (a b : SinkMeaning) (r : Result T SinkFault) (p : List ℕ) → WriteStep a b r p → OutputStep a b r p
@@ -20,6 +17,7 @@ output_of_step a b r p h = record {
   refused = λ before now. sym (rw before at h.refused) ∙ now;
 }
 
+-- a sink that refuses a write in one of two outputs stops both
 stops_then : {T U : Type 0} (a b c : Bool) (x : U) (r : Result T SinkFault) → (a ≡ false → b ≡ true → false ≡ true) → (b ≡ false → c ≡ true → is_err r ≡ true) →
     a ≡ false → c ≡ true → is_err r ≡ true
 stops_then a true c x r h k before now = absurd (false≢true (h before refl))
@@ -49,17 +47,8 @@ output_stop T U a b e p q h = record {
 -- nothing to write
 pub output_none : (T : Type 0) (a : SinkMeaning) (x : T) → let r : Result T SinkFault = Ok x in OutputStep a a r []
 output_none T a x = record {
-  bytes = sent_none a.contents;
+  bytes = Appends-nil a.contents;
   cause = record { later = omega arith; failed = λ is. absurd cc };
-  failed = or_false a.failed;
+  failed = sym (or-false a.failed);
   refused = λ before now. absurd (false≢true (sym before ∙ now));
-}
-
--- no memory for what was to be written
-pub output_no_memory : (T : Type 0) (a : SinkMeaning) (p : List ℕ) → OutputStep a a (stopped T NoMemory) p
-output_no_memory T a p = record {
-  bytes = prefix_none a.contents p;
-  cause = record { later = omega arith; failed = λ is. cc };
-  failed = or_false a.failed;
-  refused = λ before now. refl;
 }

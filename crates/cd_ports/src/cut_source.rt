@@ -54,7 +54,7 @@ impl Source for CutSource {
 
     ghost means = { cut_source };
 
-    #[tactic(auto, using(crate::proofs::Giving::gave_piece))]
+    #[tactic(auto, using(crate::proofs::Giving::gave))]
     fn read(&mut self, buf: &mut [u8]) -> Result<usize, Failed>
         ensures bound { ReadsAtMost result buf.new }
         ensures bytes { ReadConsumes (cut_source self.old).left (cut_source self.new).left result buf.new }
