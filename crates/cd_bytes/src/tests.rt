@@ -1,5 +1,6 @@
 use crate::{
-    Cursor, Order, Out, Short, bytes_are_written_as_read, checksum, numbers_are_read_as_written,
+    Cursor, Order, Out, Short, be16, be32, bytes_are_written_as_read, checksum, le16, le32,
+    numbers_are_read_as_written, numbers_at_offsets_are_read_there,
 };
 use std::test::Fail;
 
@@ -71,6 +72,28 @@ fn numbers_of_eight_bytes(rt: HostRuntime) -> Result<(), Fail> {
 }
 
 #[test]
+fn numbers_at_offsets(rt: HostRuntime) {
+    let bytes = [0xa1, 0xb2, 0xc3, 0xd4, 0, 0xff];
+    for (at, big, little) in [
+        (0, 0xa1b2, 0xb2a1),
+        (1, 0xb2c3, 0xc3b2),
+        (3, 0xd400, 0xd4),
+        (4, 0xff, 0xff00),
+    ] {
+        assert!(rt; be16(&bytes, at) == big);
+        assert!(rt; le16(&bytes, at) == little);
+    }
+    for (at, big, little) in [
+        (0, 0xa1b2_c3d4, 0xd4c3_b2a1),
+        (1, 0xb2c3_d400, 0xd4_c3b2),
+        (2, 0xc3d4_00ff, 0xff00_d4c3),
+    ] {
+        assert!(rt; be32(&bytes, at) == big);
+        assert!(rt; le32(&bytes, at) == little);
+    }
+}
+
+#[test]
 fn bytes_follow_one_another(rt: HostRuntime) -> Result<(), Fail> {
     let mut out = Out::new(rt.alloc());
     assert!(rt; out.bytes().is_empty());
@@ -138,4 +161,5 @@ fn checksums_of_an_odd_length(rt: HostRuntime) {
 fn laws(_rt: HostRuntime) {
     numbers_are_read_as_written();
     bytes_are_written_as_read();
+    numbers_at_offsets_are_read_there();
 }

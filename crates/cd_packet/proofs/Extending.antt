@@ -2,7 +2,8 @@
 use Rattle.std.proofs.Common.{◌≡◌, ℕ, zero, suc, ◌+◌, ◌*◌, ◌<◌, ◌≤◌, List, [], ◌∷◌, ◌++◌, length, drop, refl, ap, sym, ◌∙◌, arith, subst, inl, inr, length-append}
 use Rattle.std.proofs.lemmas.Bool.{cases_lt, cases_eq, cases_Bool}
 use Rattle.std.proofs.lemmas.List.{length-drop}
-use Rattle.cd_packet.specs.Bytes.{le16}
+use Rattle.cd_bytes.proofs.Offsets.{le16-append, le32-append}
+use Rattle.cd_bytes.specs.Numbers.{le16}
 use Rattle.cd_packet.specs.Capture.{Capture, ends, refused_capture, after, IsWholeOrCut, Grows}
 use Rattle.cd_packet.specs.Pcap.{captured_length, is_little_micro, packet_at, records, pcap}
 use Rattle.cd_packet.specs.declared.packet.Packet.{Packet}
@@ -11,7 +12,7 @@ use Rattle.cd_packet.specs.declared.capture.EndState.TheVariants.{Whole, Cut}
 use Rattle.cd_packet.specs.declared.capture.CaptureWhy.{CaptureWhy}
 use Rattle.cd_packet.specs.declared.capture.CaptureWhy.TheVariants.{Magic, Version, Record}
 use Rattle.cd_packet.proofs.Records.{records-short, records-refused, records-cut, records-first, pcap-magic, pcap-short, pcap-version, pcap-records}
-use Rattle.cd_packet.proofs.Growing.{has_magic-append, le16-append, le32-append, packet_at-append, pcap-front}
+use Rattle.cd_packet.proofs.Growing.{has_magic-append, packet_at-append, pcap-front}
 
 open_at : (e : EndState) (c : Capture) → c ≡ ends e → IsWholeOrCut c.end → IsWholeOrCut e
 open_at e c is h = let P : Capture → Type 0 = λ d. IsWholeOrCut d.end in subst P is h

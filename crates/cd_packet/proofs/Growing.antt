@@ -1,21 +1,14 @@
 -- What is read at the front stays, however the bytes go on.
 use Rattle.std.proofs.Common.{◌≡◌, ℕ, true, false, nat_eq, ◌+◌, ◌<◌, ◌≤◌, List, [], ◌∷◌, ◌++◌, length, take, drop, refl, ap, sym, ◌∙◌, arith, append_assoc, length-append}
 use Rattle.std.proofs.lemmas.Bool.{le-ltb, lt-ltb}
-use Rattle.std.proofs.lemmas.List.{get_or_append_left, take-append-le, drop-append-le, length-drop}
-use Rattle.cd_packet.specs.Bytes.{le16, le32, has_magic}
+use Rattle.std.proofs.lemmas.List.{take-append-le, drop-append-le, length-drop}
+use Rattle.cd_bytes.proofs.Offsets.{le16-append, le32-append}
+use Rattle.cd_bytes.specs.Numbers.{le16, le32}
+use Rattle.cd_packet.specs.Magic.{has_magic}
 use Rattle.cd_packet.specs.Capture.{Capture, after}
 use Rattle.cd_packet.specs.Pcap.{captured_length, is_little_micro, packet_at, packet_of_parts, records, pcap}
 use Rattle.cd_packet.specs.declared.packet.Packet.{Packet}
 use Rattle.cd_packet.proofs.Records.{records-whole, pcap-records}
-
-pub le32-append : (at : ℕ) (xs ys : List ℕ) → at + 4 ≤ length xs → le32 at (xs ++ ys) ≡ le32 at xs
-unfolding le32
-le32-append at xs ys h =
-    let a = get_or_append_left xs ys 0 at (omega arith) in
-    let b = get_or_append_left xs ys 0 (at + 1) (omega arith) in
-    let c = get_or_append_left xs ys 0 (at + 2) (omega arith) in
-    let d = get_or_append_left xs ys 0 (at + 3) (omega arith) in
-    omega (arith, a, b, c, d)
 
 -- four bytes decide
 pub has_magic-append : (n : ℕ) (xs ys : List ℕ) → 4 ≤ length xs → has_magic n (xs ++ ys) ≡ has_magic n xs
@@ -34,13 +27,6 @@ has_magic-many n bytes four = rw (le-ltb (length bytes) 4 four) refl
 pub has_magic-few : (n : ℕ) (bytes : List ℕ) → length bytes < 4 → has_magic n bytes ≡ false
 unfolding has_magic
 has_magic-few n bytes few = rw (lt-ltb (length bytes) 4 few) refl
-
-pub le16-append : (at : ℕ) (xs ys : List ℕ) → at + 2 ≤ length xs → le16 at (xs ++ ys) ≡ le16 at xs
-unfolding le16
-le16-append at xs ys h =
-    let a = get_or_append_left xs ys 0 at (omega arith) in
-    let b = get_or_append_left xs ys 0 (at + 1) (omega arith) in
-    omega (arith, a, b)
 
 pub packet_at-append : (link at : ℕ) (xs ys : List ℕ) → 16 + captured_length xs ≤ length xs → packet_at link at (xs ++ ys) ≡ packet_at link at xs
 packet_at-append link at xs ys h =

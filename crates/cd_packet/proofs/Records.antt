@@ -1,7 +1,8 @@
 -- How the list of records goes on.
 use Rattle.std.proofs.Common.{◌≡◌, ℕ, true, false, zero, suc, ◌+◌, ◌<◌, ◌≤◌, List, [], ◌∷◌, length, drop, refl, ap, ◌∙◌, arith}
 use Rattle.std.proofs.lemmas.Bool.{le-ltb, lt-ltb, eq-eqb, ne_eqb}
-use Rattle.cd_packet.specs.Bytes.{le16, has_magic}
+use Rattle.cd_bytes.specs.Numbers.{le16}
+use Rattle.cd_packet.specs.Magic.{has_magic}
 use Rattle.cd_packet.specs.Capture.{ends, refused_capture, after}
 use Rattle.cd_packet.specs.Pcap.{captured_length, is_little_micro, packet_at, records, pcap}
 use Rattle.cd_packet.specs.declared.capture.EndState.TheVariants.{Whole, Cut}

@@ -1,7 +1,7 @@
 -- A packet that is not of Ethernet and IPv4, or has no time, has no datagram that is read.
 use Rattle.std.proofs.Common.{◌≡◌, ℕ, ◌≤◌, Bool, true, false, nat_lt, nat_eq, length, if◌then◌else◌, refl}
 use Rattle.std.proofs.lemmas.Bool.{ltb-false, eqb-true}
-use Rattle.cd_packet.specs.Bytes.{be16}
+use Rattle.cd_bytes.specs.Numbers.{be16}
 use Rattle.cd_packet.specs.Layers.{Found, skipped, skip_for_missing, network_layer, ethernet_layer, link_layer, timed_layer, layer_of, ipv4_layer, IsEthernetIpv4}
 use Rattle.cd_packet.specs.declared.datagram.Reason.{Reason}
 use Rattle.cd_packet.specs.declared.datagram.Reason.TheVariants.{Link, Length, NotIp, Cut, Time, NoTime}

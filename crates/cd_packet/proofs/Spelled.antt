@@ -1,7 +1,7 @@
 -- A record that is spelled is read as the packet that it means.
 use Rattle.std.proofs.Common.{◌≡◌, ℕ, ◌+◌, ◌*◌, ◌/◌, ◌%◌, List, [], ◌∷◌, ◌++◌, length, take, drop, refl, ap, sym, ◌∙◌, arith, length-append}
 use Rattle.std.proofs.lemmas.List.{take_at, drop_at, drop-drop}
-use Rattle.cd_packet.specs.Bytes.{le32}
+use Rattle.cd_bytes.specs.Numbers.{le32}
 use Rattle.cd_packet.specs.Capture.{after}
 use Rattle.cd_packet.specs.Pcap.{records, packet_of_parts, captured_length, packet_at}
 use Rattle.cd_packet.proofs.Records.{records-whole}

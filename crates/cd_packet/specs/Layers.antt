@@ -8,7 +8,7 @@ use Rattle.cd_packet.specs.declared.datagram.Reason.TheVariants.{Link, Length, N
 use Rattle.cd_packet.specs.declared.packet.Packet.{Packet}
 use Rattle.cd_packet.specs.declared.packet.When.{When}
 use Rattle.cd_packet.specs.declared.packet.When.TheVariants.{At, Outside, Missing}
-use Rattle.cd_packet.specs.Bytes.{be16}
+use Rattle.cd_bytes.specs.Numbers.{be16}
 
 -- a datagram without where its payload lies in memory
 pub record Datagram : Type 0 where

@@ -1,4 +1,4 @@
-pub mod Bytes
+pub mod Magic
 pub mod Time
 pub mod Capture
 pub mod Pcap

@@ -3,7 +3,8 @@ use Rattle.std.specs.Prelude.{ℕ, zero, suc, ◌+◌, ◌*◌, nat_lt, nat_eq, 
 use Rattle.cd_packet.specs.declared.packet.Packet.{Packet}
 use Rattle.cd_packet.specs.declared.capture.EndState.TheVariants.{Whole, Cut}
 use Rattle.cd_packet.specs.declared.capture.CaptureWhy.TheVariants.{Magic, Version, Record}
-use Rattle.cd_packet.specs.Bytes.{le16, le32, has_magic}
+use Rattle.cd_bytes.specs.Numbers.{le16, le32}
+use Rattle.cd_packet.specs.Magic.{has_magic}
 use Rattle.cd_packet.specs.Time.{when_at, when_at-timely}
 use Rattle.cd_packet.specs.Capture.{Capture, ends, refused_capture, after}
 

@@ -1,11 +1,12 @@
 //! Reads the layers of a packet: Ethernet, IPv4 (RFC 791 3.1) and UDP (RFC 768).
 
 ghost use Rattle.std.specs.Prelude.{◌≡◌, ◌+◌, ◌*◌, ◌^◌, ◌<◌, ◌≤◌, ◌↔◌, IsTrue, length};
-ghost use Rattle.cd_packet.specs.Bytes.{be16};
+ghost use Rattle.cd_bytes.specs.Numbers.{be16};
 ghost use Rattle.cd_packet.specs.IpPackets.{ip_packet_of};
 ghost use Rattle.cd_packet.specs.Layers.{found_in, skipped, skip_for_missing, address_at, udp_layer, ipv4_layer, ethernet_layer, layer_of, IsEthernetIpv4};
 
-use crate::{Addr, Dgram, Layer, Packet, Reason, When, be16};
+use crate::{Addr, Dgram, Layer, Packet, Reason, When};
+use cd_bytes::be16;
 
 const LINK_ETHERNET: u16 = 1;
 

@@ -12,7 +12,7 @@ mod capture;
 mod datagram;
 mod law;
 mod layer_reading;
-mod number_reading;
+mod magic;
 mod packet;
 #[cfg(test)]
 mod tests;
@@ -22,5 +22,5 @@ pub use capture::{BadCapture, CaptureWhy, EndState, FeedFault};
 pub use datagram::{Dgram, Layer, Reason};
 pub use law::{captures_grow, spelled_is_read};
 pub use layer_reading::{is_ethernet_ipv4, layers};
-pub use number_reading::{be16, has_magic, le16, le32};
+pub use magic::has_magic;
 pub use packet::{Packet, When};

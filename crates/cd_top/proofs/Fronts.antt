@@ -2,10 +2,11 @@
 use Rattle.std.proofs.Common.{◌≡◌, ℕ, ◌+◌, ◌≤◌, Option, Some, None, List, [], ◌∷◌, ◌++◌, length, take, drop, refl, ap, sym, ◌∙◌, subst, arith}
 use Rattle.std.proofs.lemmas.List.{take-append-drop, length-take-le, drop_all}
 use Rattle.cd_packet.specs.declared.capture.EndState.{EndState}
-use Rattle.cd_packet.specs.Bytes.{le16, le32}
+use Rattle.cd_bytes.proofs.Offsets.{le16-append, le32-append}
+use Rattle.cd_bytes.specs.Numbers.{le16, le32}
 use Rattle.cd_packet.specs.Capture.{ends, after}
 use Rattle.cd_packet.specs.Pcap.{captured_length, is_little_micro, packet_at, records, pcap}
-use Rattle.cd_packet.proofs.Growing.{has_magic-append, le16-append, le32-append, packet_at-append, records-front, pcap-front}
+use Rattle.cd_packet.proofs.Growing.{has_magic-append, packet_at-append, records-front, pcap-front}
 use Rattle.cd_top.specs.declared.record.Place.TheVariants as place
 use Rattle.cd_top.specs.Fronts.{HasHeader, HasRecord, IsRefusedAt, PlaceIs}
 use Rattle.cd_top.specs.Reading.{reading_on}

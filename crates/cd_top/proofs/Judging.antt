@@ -2,7 +2,8 @@
 use Rattle.std.proofs.Common.{◌≡◌, ℕ, suc, ◌+◌, ◌<◌, ◌≤◌, Bool, true, false, ◌&&◌, not, cond, List, [], ◌∷◌, ◌++◌, length, Option, Some, None, is_some, refl, ap, sym, ◌∙◌, arith, inl, inr, subst, nat_eq}
 use Rattle.std.specs.Prelude.{nat_lt}
 use Rattle.std.proofs.lemmas.Bool.{le-ltb, lt-ltb, ltb-true, eqb-true, cases_Bool, false≢true}
-use Rattle.cd_packet.specs.Bytes.{le32, has_magic}
+use Rattle.cd_bytes.specs.Numbers.{le32}
+use Rattle.cd_packet.specs.Magic.{has_magic}
 use Rattle.cd_packet.specs.Capture.{Capture, IsWholeOrCut}
 use Rattle.cd_packet.specs.Pcap.{is_little_micro, pcap}
 use Rattle.cd_packet.proofs.Growing.{has_magic-append, has_magic-many, has_magic-few}

@@ -3,7 +3,7 @@ use Rattle.std.specs.Prelude.{◌≡◌, ℕ, ◌≤◌, false, ◌++◌, ◌+�
 use Rattle.cd_packet.specs.declared.capture.EndState.{EndState}
 use Rattle.cd_packet.specs.declared.capture.EndState.TheVariants.{Whole, Cut, Bad}
 use Rattle.cd_packet.specs.declared.packet.Packet.{Packet}
-use Rattle.cd_packet.specs.Bytes.{has_magic}
+use Rattle.cd_packet.specs.Magic.{has_magic}
 use Rattle.cd_packet.specs.Capture.{Capture}
 use Rattle.cd_packet.specs.Pcap.{pcap}
 use Rattle.cd_top.specs.Events.{query_of}

@@ -1,7 +1,7 @@
 -- The events of a capture. So far an event is a query whose message is a header alone (RFC 1035 4.1.1).
 use Rattle.std.specs.Prelude.{ℕ, ◌/◌, ◌%◌, Bool, nat_eq, ◌&&◌, List, length, take, Option, Some, None, if◌then◌else◌}
 use Rattle.std.specs.List.{filter_map}
-use Rattle.cd_packet.specs.Bytes.{be16}
+use Rattle.cd_bytes.specs.Numbers.{be16}
 use Rattle.cd_packet.specs.Layers.{Datagram, Found, datagram, skipped, layer_of}
 use Rattle.cd_packet.specs.Pcap.{pcap}
 use Rattle.cd_packet.specs.declared.address.Addr.{Addr}

@@ -2,7 +2,7 @@
 use Rattle.std.specs.Prelude.{◌≡◌, ℕ, true, ◌+◌, ◌≤◌, List, length, Option, Some, None, ⊤}
 use Rattle.cd_packet.specs.declared.capture.EndState.{EndState}
 use Rattle.cd_packet.specs.declared.capture.EndState.TheVariants.{Whole, Cut, Bad}
-use Rattle.cd_packet.specs.Bytes.{le16}
+use Rattle.cd_bytes.specs.Numbers.{le16}
 use Rattle.cd_packet.specs.Capture.{ends}
 use Rattle.cd_packet.specs.Pcap.{captured_length, is_little_micro, packet_at, records, pcap}
 use Rattle.cd_top.specs.declared.record.Place.{Place}

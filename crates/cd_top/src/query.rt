@@ -4,7 +4,8 @@ ghost use Rattle.std.specs.Prelude.{◌≡◌};
 ghost use Rattle.cd_packet.specs.Layers.{found_in};
 ghost use Rattle.cd_top.specs.Events.{is_header_query, octets_of, query_found, query_of};
 
-use cd_packet::{Addr, Dgram, Layer, Packet, be16, is_ethernet_ipv4, layers};
+use cd_bytes::be16;
+use cd_packet::{Addr, Dgram, Layer, Packet, is_ethernet_ipv4, layers};
 
 /// A query whose message is a header alone, as one event of a capture.
 #[derive(Clone, Copy, Debug)]

@@ -5,8 +5,9 @@ ghost use Rattle.cd_packet.specs.Pcap.{captured_length, packet_at};
 ghost use Rattle.cd_packet.specs.Time.{when_at};
 ghost use Rattle.cd_top.specs.Fronts.{PlaceIs, PassesWithin, FrontIs, FirstIs};
 
+use cd_bytes::{le16, le32};
 use cd_name::Blob;
-use cd_packet::{BadCapture, CaptureWhy, EndState, Packet, When, has_magic, le16, le32};
+use cd_packet::{BadCapture, CaptureWhy, EndState, Packet, When, has_magic};
 use std::alloc::{AllocError, Global};
 
 const MAGIC: u32 = 0xa1b2_c3d4;
