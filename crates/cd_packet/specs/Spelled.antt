@@ -1,5 +1,6 @@
 -- Records of a little-endian pcap capture as they are spelled (the pcap draft, 5), and that each is read as it was meant.
-use Rattle.std.specs.Prelude.{◌≡◌, ℕ, ◌+◌, ◌/◌, ◌%◌, ◌^◌, ◌<◌, ◌≤◌, List, [], ◌∷◌, ◌++◌, length}
+use Rattle.std.specs.Prelude.{◌≡◌, ℕ, ◌+◌, ◌^◌, ◌<◌, ◌≤◌, List, [], ◌∷◌, ◌++◌, length}
+use Rattle.std.specs.Int.{w32, to_le_bytes}
 use Rattle.cd_packet.specs.declared.packet.Packet.{Packet}
 use Rattle.cd_packet.specs.Capture.{after}
 use Rattle.cd_packet.specs.Pcap.{records, packet_of_parts}
@@ -18,13 +19,9 @@ pub record Fits (r : RawRecord) : Type 0 where
   pub original : r.original < 2 ^ 32
   pub captured : length r.captured ≤ 262144
 
--- the four little-endian bytes of a number
-abbrev pub le_bytes32 : ℕ → List ℕ
-le_bytes32 n = n % 0x100 ∷ n / 0x100 % 0x100 ∷ n / 0x100 / 0x100 % 0x100 ∷ n / 0x100 / 0x100 / 0x100 ∷ []
-
--- seconds, microseconds, captured length, original length, and the captured bytes
+-- seconds, microseconds, captured length and original length, each as four little-endian bytes, and the captured bytes
 abbrev pub spelling_of : RawRecord → List ℕ
-spelling_of r = le_bytes32 r.seconds ++ le_bytes32 r.micros ++ le_bytes32 (length r.captured) ++ le_bytes32 r.original ++ r.captured
+spelling_of r = to_le_bytes w32 r.seconds ++ to_le_bytes w32 r.micros ++ to_le_bytes w32 (length r.captured) ++ to_le_bytes w32 r.original ++ r.captured
 
 -- the packet that a record means, under this link type and at this offset
 abbrev pub packet_of_raw : ℕ → ℕ → RawRecord → Packet
