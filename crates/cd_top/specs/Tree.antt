@@ -1,27 +1,16 @@
 -- A tree of CBOR values and its one canonical spelling: the shortest heads, and definite lengths but for the array of
 -- blocks (RFC 8949 3 and 4.2.1).
-use Rattle.std.specs.Prelude.{ℕ, ◌+◌, ◌*◌, ◌/◌, ◌%◌, nat_lt, List, [], ◌∷◌, ◌++◌, length, if◌then◌else◌}
-
--- the two big-endian bytes of a number
-abbrev pub be_bytes16 : ℕ → List ℕ
-be_bytes16 n = n / 0x100 ∷ n % 0x100 ∷ []
-
--- the four big-endian bytes of a number
-abbrev pub be_bytes32 : ℕ → List ℕ
-be_bytes32 n = n / 0x100_0000 ∷ n / 0x1_0000 % 0x100 ∷ n / 0x100 % 0x100 ∷ n % 0x100 ∷ []
-
--- the eight big-endian bytes of a number
-abbrev pub be_bytes64 : ℕ → List ℕ
-be_bytes64 n = be_bytes32 (n / 0x1_0000_0000) ++ be_bytes32 (n % 0x1_0000_0000)
+use Rattle.std.specs.Prelude.{ℕ, ◌+◌, ◌*◌, ◌/◌, nat_lt, List, [], ◌∷◌, ◌++◌, length, if◌then◌else◌}
+use Rattle.std.specs.Int.{w16, w32, w64, to_be_bytes}
 
 -- a head of this major type, as short as it can be
 unfoldable pub head_of : ℕ → ℕ → List ℕ
 head_of major n =
     if nat_lt n 24 then (major * 32 + n) ∷ []
     else (if nat_lt n 0x100 then (major * 32 + 24) ∷ n ∷ []
-    else (if nat_lt n 0x1_0000 then (major * 32 + 25) ∷ be_bytes16 n
-    else (if nat_lt n 0x1_0000_0000 then (major * 32 + 26) ∷ be_bytes32 n
-    else (major * 32 + 27) ∷ be_bytes64 n)))
+    else (if nat_lt n 0x1_0000 then (major * 32 + 25) ∷ to_be_bytes w16 n
+    else (if nat_lt n 0x1_0000_0000 then (major * 32 + 26) ∷ to_be_bytes w32 n
+    else (major * 32 + 27) ∷ to_be_bytes w64 n)))
 
 -- a CBOR value
 pub data Tree : Type 0 where

@@ -2,7 +2,7 @@
 //! found.
 
 ghost use Rattle.std.specs.Prelude.{◌≡◌, ◌<◌, ◌∷◌, ◌++◌, length, OnOk};
-ghost use Rattle.cd_top.specs.Tree.{be_bytes16, be_bytes32, be_bytes64, head_of, cbor_map, fields, spelling};
+ghost use Rattle.cd_top.specs.Tree.{head_of, cbor_map, fields, spelling};
 
 use std::alloc::AllocError;
 
@@ -14,40 +14,12 @@ const ARRAY: u8 = 4;
 
 const MAP: u8 = 5;
 
-fn push_head16(out: &mut Vec<u8>, first: u8, n: u16) -> Result<(), AllocError>
-    ensures { OnOk result (out.new.items ≡ out.old.items ++ first ∷ be_bytes16 n) }
+// Appends the first byte of a head, and the bytes of its number.
+fn push_long(out: &mut Vec<u8>, first: u8, number: &[u8]) -> Result<(), AllocError>
+    ensures { OnOk result (out.new.items ≡ out.old.items ++ first ∷ number.now) }
 {
-    out.extend_from_slice(&[first, (n / 0x100) as u8, (n % 0x100) as u8])
-}
-
-fn push_head32(out: &mut Vec<u8>, first: u8, n: u32) -> Result<(), AllocError>
-    ensures { OnOk result (out.new.items ≡ out.old.items ++ first ∷ be_bytes32 n) }
-{
-    out.extend_from_slice(&[
-        first,
-        (n / 0x100_0000) as u8,
-        (n / 0x1_0000 % 0x100) as u8,
-        (n / 0x100 % 0x100) as u8,
-        (n % 0x100) as u8,
-    ])
-}
-
-fn push_head64(out: &mut Vec<u8>, first: u8, n: u64) -> Result<(), AllocError>
-    ensures { OnOk result (out.new.items ≡ out.old.items ++ first ∷ be_bytes64 n) }
-{
-    let high = (n / 0x1_0000_0000) as u32;
-    let low = (n % 0x1_0000_0000) as u32;
-    out.extend_from_slice(&[
-        first,
-        (high / 0x100_0000) as u8,
-        (high / 0x1_0000 % 0x100) as u8,
-        (high / 0x100 % 0x100) as u8,
-        (high % 0x100) as u8,
-        (low / 0x100_0000) as u8,
-        (low / 0x1_0000 % 0x100) as u8,
-        (low / 0x100 % 0x100) as u8,
-        (low % 0x100) as u8,
-    ])
+    out.push(first)?;
+    out.extend_from_slice(number)
 }
 
 /// Appends the shortest head of a major type from 0 to 7 and a number (RFC 8949 3). An `Err` may leave a part of it.
@@ -65,12 +37,12 @@ pub fn push_head(out: &mut Vec<u8>, major: u8, n: u64) -> Result<(), AllocError>
         return out.extend_from_slice(&[kind + 24, n as u8]);
     }
     if n < 0x1_0000 {
-        return push_head16(out, kind + 25, n as u16);
+        return push_long(out, kind + 25, &(n as u16).to_be_bytes());
     }
     if n < 0x1_0000_0000 {
-        return push_head32(out, kind + 26, n as u32);
+        return push_long(out, kind + 26, &(n as u32).to_be_bytes());
     }
-    push_head64(out, kind + 27, n)
+    push_long(out, kind + 27, &n.to_be_bytes())
 }
 
 /// Appends a number. An `Err` may leave a part of it, as everywhere in this module.
