@@ -72,8 +72,3 @@ pcap-front xs more magic long two =
 
 pub after-after : (a b : List Packet) (c : Capture) → after a (after b c) ≡ after (a ++ b) c
 after-after a b c = ap (λ ps. let r : Capture = record { packets = ps; end = c.end } in r) (sym (append_assoc a b c.packets))
-
-pub after-none : (c : Capture) → after [] c ≡ c
-after-none c = refl
-
-pub ruleset fronts = (records-front, pcap-front)

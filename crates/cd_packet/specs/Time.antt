@@ -11,7 +11,7 @@ end_of_time = 2 ^ 32 * 1000000000
 
 -- the time of so many nanoseconds since 1970
 abbrev pub when_at : ℕ → When
-when_at n = if nat_lt n (2 ^ 32 * 1000000000) then At n else Outside
+when_at n = if nat_lt n end_of_time then At n else Outside
 
 -- a choice that is a time was made by its test
 chosen : (b : Bool) (n m : ℕ) → (if b then At n else Outside) ≡ At m → (b ≡ true) × (n ≡ m)
@@ -19,8 +19,8 @@ chosen true n m e = (refl, cc)
 chosen false n m e = absurd cc
 
 -- a time is below its end
-pub when_at-timely : (n m : ℕ) → when_at n ≡ At m → m < 2 ^ 32 * 1000000000
+pub when_at-timely : (n m : ℕ) → when_at n ≡ At m → m < end_of_time
 when_at-timely n m e =
-    let c = chosen (nat_lt n (2 ^ 32 * 1000000000)) n m e in
-    let P : ℕ → Type 0 = λ k. k < 2 ^ 32 * 1000000000 in
-    subst P c.1 (ltb-true n (2 ^ 32 * 1000000000) c.0)
+    let c = chosen (nat_lt n end_of_time) n m e in
+    let P : ℕ → Type 0 = λ k. k < end_of_time in
+    subst P c.1 (ltb-true n end_of_time c.0)

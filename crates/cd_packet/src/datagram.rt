@@ -1,6 +1,7 @@
 //! What the layers of a packet hold: a datagram, or the reason why there is none.
 
-ghost use Rattle.std.specs.Prelude.{◌<◌, ◌*◌, ◌^◌};
+ghost use Rattle.std.specs.Prelude.{◌<◌};
+ghost use Rattle.cd_packet.specs.Time.{end_of_time};
 
 use crate::Addr;
 
@@ -21,7 +22,7 @@ pub struct Dgram<'a> {
     pub hop: u8,
     /// The bytes behind the UDP header, as many as its length field says.
     pub payload: &'a [u8],
-    pub ghost timely: { time < 2 ^ 32 * 1000000000 },
+    pub ghost timely: { time < end_of_time },
 }
 
 /// Why a packet has no datagram that is read.

@@ -1,9 +1,10 @@
 //! Reads the layers of a packet: Ethernet, IPv4 (RFC 791 3.1) and UDP (RFC 768).
 
-ghost use Rattle.std.specs.Prelude.{◌≡◌, ◌+◌, ◌*◌, ◌^◌, ◌<◌, ◌≤◌, ◌↔◌, IsTrue, length};
+ghost use Rattle.std.specs.Prelude.{◌≡◌, ◌+◌, ◌<◌, ◌≤◌, ◌↔◌, IsTrue, length};
 ghost use Rattle.cd_bytes.specs.Numbers.{be16};
 ghost use Rattle.cd_packet.specs.IpPackets.{ip_packet_of};
 ghost use Rattle.cd_packet.specs.Layers.{found_in, skipped, skip_for_missing, address_at, udp_layer, ipv4_layer, ethernet_layer, layer_of, IsEthernetIpv4};
+ghost use Rattle.cd_packet.specs.Time.{end_of_time};
 
 use crate::{Addr, Dgram, Layer, Packet, Reason, When};
 use cd_bytes::be16;
@@ -73,7 +74,7 @@ fn address(bytes: &[u8], at: usize) -> Addr
 
 // The datagram of UDP, whose header is there (RFC 768).
 fn udp<'a>(packet: &'a Packet, port: u16, time: u64, ip: IpPacket) -> Layer<'a>
-    requires timely { time < 2 ^ 32 * 1000000000 }
+    requires timely { time < end_of_time }
     requires header { ip.transport + 8 ≤ length packet.now.bytes }
     ensures { found_in result ≡ udp_layer port time packet.now (ip_packet_of ip) }
 {
@@ -103,7 +104,7 @@ fn udp<'a>(packet: &'a Packet, port: u16, time: u64, ip: IpPacket) -> Layer<'a>
 
 // The IPv4 packet at an offset (RFC 791 3.1).
 fn ipv4<'a>(packet: &'a Packet, port: u16, time: u64, at: usize) -> Layer<'a>
-    requires timely { time < 2 ^ 32 * 1000000000 }
+    requires timely { time < end_of_time }
     requires within { at ≤ length packet.now.bytes }
     ensures { found_in result ≡ ipv4_layer port time packet.now at }
 {
@@ -143,7 +144,7 @@ fn ipv4<'a>(packet: &'a Packet, port: u16, time: u64, at: usize) -> Layer<'a>
 
 // What stands behind the header of Ethernet.
 fn ethernet<'a>(packet: &'a Packet, port: u16, time: u64) -> Layer<'a>
-    requires timely { time < 2 ^ 32 * 1000000000 }
+    requires timely { time < end_of_time }
     requires header { 14 ≤ length packet.now.bytes }
     requires protocol { be16 12 packet.now.bytes ≡ 0x0800 }
     ensures { found_in result ≡ ethernet_layer port time packet.now }

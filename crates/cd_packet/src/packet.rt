@@ -1,6 +1,7 @@
 //! A packet of a capture.
 
-ghost use Rattle.std.specs.Prelude.{◌≡◌, ℕ, ◌<◌, ◌*◌, ◌^◌};
+ghost use Rattle.std.specs.Prelude.{◌≡◌, ℕ, ◌<◌};
+ghost use Rattle.cd_packet.specs.Time.{end_of_time};
 ghost use Rattle.cd_packet.specs.declared.packet.When.TheVariants.{At};
 
 use cd_name::Blob;
@@ -29,5 +30,5 @@ pub struct Packet {
     pub original: u32,
     /// The captured bytes.
     pub bytes: Blob,
-    pub ghost timely: { (n : ℕ) → when ≡ At n → n < 2 ^ 32 * 1000000000 },
+    pub ghost timely: { (n : ℕ) → when ≡ At n → n < end_of_time },
 }

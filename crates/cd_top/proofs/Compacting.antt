@@ -14,7 +14,7 @@ use Rattle.cd_packet.specs.declared.capture.EndState.{EndState}
 use Rattle.cd_packet.specs.declared.capture.EndState.TheVariants.{Whole, Cut, Bad}
 use Rattle.cd_ports.specs.Reading.{SourceMeaning}
 use Rattle.cd_ports.specs.Writing.{SinkMeaning}
-use Rattle.cd_top.specs.Endings.{is_other_format, first_unserved, status_said, ended_by, StopsReading}
+use Rattle.cd_top.specs.Endings.{is_other_format, first_unserved, status_said, ended_by}
 use Rattle.cd_top.specs.Run.{IsStopped, EndsAs, ComesExactly, IsTaken, Writes, defined_file, IsServedCapture, Compacts, Refuses, RefusesWords}
 use Rattle.cd_top.specs.Words.{usage_text}
 use Rattle.cd_top.specs.declared.status.Status.{Status}
@@ -81,10 +81,6 @@ pub file_written : (so sn : SourceMeaning) (ko kn : SinkMeaning) (result : Statu
 file_written so sn ko kn result h taken is =
     let P : List ℕ → Type 0 = λ t. Writes ko kn result (defined_file t sn.ended) in
     subst P (taken_is so sn h.0 taken h.1.took is) h.1.file
-
-pub takes_some : (so sn : SourceMeaning) (ko kn : SinkMeaning) (result : Status) → Compacts so sn ko kn result → (bytes : List ℕ) → so.left ≡ Some bytes →
-    (taken : List ℕ) × IsTaken so sn taken × StopsReading taken
-takes_some so sn ko kn result h bytes told = (h.0, is_taken so sn bytes h.0 told h.1.took, h.1.stops)
 
 open_before : (now later : Capture) → Grows now later → IsWholeOrCut later.end → (e : EndState) → now.end ≡ e → IsWholeOrCut e
 open_before now later g h Whole is = tt

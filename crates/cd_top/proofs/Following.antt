@@ -1,10 +1,8 @@
 -- What the intake knows of the bytes that it has taken.
-use Rattle.std.proofs.Common.{◌≡◌, ℕ, ◌+◌, ◌-◌, ◌<◌, ◌≤◌, min, Bool, true, false, ◌&&◌, cond, List, [], ◌∷◌, ◌++◌, length, take, drop, Option, Some, None, is_some, refl, ap, sym, ◌∙◌, arith, inl, inr, append_assoc, length-append}
+use Rattle.std.proofs.Common.{◌≡◌, ℕ, ◌+◌, ◌<◌, ◌≤◌, min, Bool, true, false, ◌&&◌, cond, List, [], ◌∷◌, ◌++◌, length, take, drop, Option, Some, None, is_some, refl, ap, sym, ◌∙◌, arith, append_assoc, length-append}
 use Rattle.std.specs.Prelude.{nat_lt}
-use Rattle.std.proofs.lemmas.Bool.{cases_lt}
-use Rattle.std.proofs.lemmas.List.{append-nil, take_all, take-append-le, length-take, take_min, take-append-drop}
+use Rattle.std.proofs.lemmas.List.{length-take, take-append-drop}
 use Rattle.std.proofs.lemmas.List.Elements.{filter_map-append}
-use Rattle.std.proofs.Math.Seq.{take-append-add}
 use Rattle.cd_packet.specs.Capture.{Capture}
 use Rattle.cd_packet.specs.Pcap.{is_little_micro, pcap}
 use Rattle.cd_packet.specs.declared.capture.EndState.{EndState}
@@ -21,22 +19,6 @@ use Rattle.cd_top.specs.declared.status.Status.TheVariants as status
 use Rattle.cd_packet.proofs.Records.{pcap-magic, pcap-none}
 use Rattle.cd_packet.proofs.Growing.{has_magic-few}
 use Rattle.cd_top.proofs.Judging.{served-append, served-count, other-append, other-not_read, status_said-few, status_said-other}
-
--- a piece behind bytes of which the first four are kept
-pub first_kept : (fed piece first : List ℕ) → first ≡ take 4 fed →
-    first ++ take (min (4 - length first) (length piece)) piece ≡ take 4 (fed ++ piece)
-first_kept fed piece first is =
-    let size : length first ≡ min 4 (length fed) = ap length is ∙ length-take 4 fed in
-    ap (λ t. first ++ t) (take_min (4 - length first) piece)
-    ∙ elim (cases_lt (length fed) 4) [
-      | inl few ↦
-          let all : first ≡ fed = is ∙ take_all 4 fed (omega arith) in
-          let n : length fed + (4 - length fed) ≡ 4 = omega arith in
-          ap (λ t. t ++ take (4 - length t) piece) all ∙ sym (take-append-add fed piece (4 - length fed)) ∙ ap (λ k. take k (fed ++ piece)) n
-      | inr many ↦
-          let none : 4 - length first ≡ 0 = omega arith in
-          ap (λ k. first ++ take k piece) none ∙ append-nil first ∙ is ∙ sym (take-append-le 4 fed piece many)
-    ]
 
 -- as many bytes were fed as the reader says
 pub stands_count : (r : Unread) (fed : List ℕ) (given : List Packet) → StandsFor r fed given → length fed ≡ fed_count r

@@ -3,14 +3,13 @@ use Rattle.std.proofs.Common.{◌≡◌, ℕ, ◌+◌, ◌-◌, ◌<◌, ◌≤�
 use Rattle.std.specs.Prelude.{unwrap_or, OnErr, ◌||◌, ◌&&◌, nat_eq, zero, suc}
 use Rattle.std.proofs.lemmas.Bool.{cases_lt, cases_Bool, false≢true}
 use Rattle.std.proofs.lemmas.List.{append-nil}
-use Rattle.std.specs.Io.KnownBytes.{Consumes, Keeps}
+use Rattle.std.specs.Io.KnownBytes.{Consumes}
 use Rattle.cd_packet.specs.Pcap.{pcap}
 use Rattle.cd_packet.proofs.Extending.{pcap-few}
-use Rattle.cd_ports.proofs.Steps.{consumes_then, consumes_none, consumes_kept, keeps_same}
+use Rattle.cd_ports.proofs.Steps.{consumes_then, consumes_none, keeps_same}
 use Rattle.cd_top.specs.Events.{events}
 use Rattle.cd_top.specs.Gathered.{Follows, Judges, Gathers, IsEnding}
 use Rattle.cd_top.specs.Endings.{is_other_format, status_said, ended_by, used_bytes, most_taken, StopsReading}
-use Rattle.cd_top.specs.Reading.{fed_count}
 use Rattle.cd_top.specs.declared.gathering.Gathered.{Gathered}
 use Rattle.cd_top.specs.declared.intake.Intake.{Intake}
 use Rattle.cd_top.specs.declared.query.Query.{Query}
@@ -18,7 +17,7 @@ use Rattle.cd_top.specs.declared.status.Status.{Status}
 use Rattle.cd_top.specs.declared.status.Status.TheVariants as status
 use Rattle.cd_top.proofs.Judging.{served-few, status_said-none, status_said-other, status_said-read, unsaid-capture, IsNoEnd, status_said-no_end, status_said-ending}
 use Rattle.cd_ports.specs.Counter.{next_count}
-use Rattle.cd_top.proofs.Following.{stands_count, none_queries}
+use Rattle.cd_top.proofs.Following.{none_queries}
 
 -- bytes that say nothing are few
 pub unsaid-few : (bytes : List ℕ) → status_said false bytes ≡ None → length bytes < most_taken
@@ -45,9 +44,6 @@ pub record Awaits (old now : Option (List ℕ)) (intake : Intake) (room : ℕ) :
 
 pub awaits_room : (old now : Option (List ℕ)) (intake : Intake) (room : ℕ) → Awaits old now intake room → 0 < room
 awaits_room old now intake room h = let few = unsaid-few h.taken h.unsaid in omega (arith, h.count)
-
-pub awaits_fed : (old now : Option (List ℕ)) (intake : Intake) (room : ℕ) → Awaits old now intake room → fed_count intake.reader + room ≡ most_taken
-awaits_fed old now intake room h = omega (arith, h.count, stands_count intake.reader h.taken h.follows.given h.follows.stands)
 
 -- what was taken before a read is read in time
 pub awaits_stops : (old now : Option (List ℕ)) (intake : Intake) (room : ℕ) → (h : Awaits old now intake room) → StopsReading h.taken
@@ -82,15 +78,6 @@ took_none left = ([], consumes_none left left (keeps_same left), none_stops)
 -- what a run took that ends with this status and these queries
 abbrev pub Ends : Option (List ℕ) → Option (List ℕ) → Bool → Gathered → Type 0
 Ends old now told_end g = (taken : List ℕ) × Consumes old now taken × (Gathers taken told_end g × StopsReading taken)
-
--- a read failed
-pub ends_failed : (old a b : Option (List ℕ)) (intake : Intake) (room : ℕ) → Awaits old a intake room → Keeps a b →
-    Ends old b false (record { status = status.ReadFault; queries = intake.queries })
-ends_failed old a b intake room h kept = (
-  h.taken,
-  consumes_kept old a b h.taken h.took kept,
-  (record { status = sym (ap (λ o. unwrap_or o status.ReadFault) h.unsaid); queries = h.queries }, awaits_stops old a intake room h),
-)
 
 -- what is known once a piece was taken
 pub record Taken (old now : Option (List ℕ)) (intake : Intake) (room : ℕ) : Type 0 where

@@ -19,6 +19,9 @@ const RECORD_HEADER: usize = 16;
 // The greatest captured length that a record may have.
 const MOST_CAPTURED: u32 = 262_144;
 
+// The first nanosecond that is no time: 2^32 seconds.
+const END_OF_TIME: u64 = 4_294_967_296_000_000_000;
+
 /// Where the next record is to be looked for, or how the bytes end before one.
 #[derive(Drop)]
 pub enum Place {
@@ -81,7 +84,7 @@ fn time_of(seconds: u32, micros: u32) -> When
     ensures { result ≡ when_at (seconds * 1000000000 + micros * 1000) }
 {
     let nanos = seconds as u64 * 1_000_000_000 + micros as u64 * 1_000;
-    if nanos < 4_294_967_296_000_000_000 {
+    if nanos < END_OF_TIME {
         When::At(nanos)
     } else {
         When::Outside
