@@ -6,12 +6,10 @@
 
 use cd_name::Blob;
 use cd_ports::{StdSink, StdSource};
-use cd_top::{exit_code, run_plain};
+use cd_top::{Status, exit_code, run_plain};
 use std::env;
 use std::io::ErrorKind;
 use std::process::ExitCode;
-
-const NO_MEMORY: u8 = 6;
 
 const NO_TEXT: u8 = 10;
 
@@ -52,7 +50,7 @@ fn run_words(rt: &HostRuntime, words: &[Blob]) -> u8 {
 
 fn main(rt: HostRuntime) -> ExitCode {
     ExitCode::from(match words_of(&rt) {
-        Err(NoWords::NoMemory) => NO_MEMORY,
+        Err(NoWords::NoMemory) => exit_code(&Status::NoMemory),
         Err(NoWords::NoText) => NO_TEXT,
         Ok(words) => run_words(&rt, &words),
     })
