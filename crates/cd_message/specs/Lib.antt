@@ -5,3 +5,5 @@ pub mod Valid
 pub mod Weights
 pub mod Rules
 pub mod MessageLaws
+pub mod Written
+pub mod WrittenLaws
