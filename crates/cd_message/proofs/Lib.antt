@@ -16,3 +16,4 @@ pub mod OneAnswer
 pub mod Within
 pub mod Weights
 pub mod Longer
+pub mod RdataParts

@@ -2,6 +2,8 @@
 
 ghost use Rattle.cd_message.specs.MessageLaws.{MessagesAreValid, MessagesLieWithin, MessagesStay, ReadMessagesAreLight, RdataKeepsShape, ShapedRdataIsItself};
 ghost use Rattle.cd_message.specs.Rules.{SpelledByRules, BrokenByRules, RulesGiveOne};
+ghost use Rattle.cd_message.specs.MessageLaws.{MessagesAreValid, RdataKeepsShape, ShapedRdataIsItself, OneAnswerEach};
+ghost use Rattle.cd_message.specs.WrittenLaws.{PartsFillShapes};
 
 /// A message that is read is valid.
 pub fn messages_are_valid()
@@ -40,4 +42,9 @@ pub fn messages_follow_the_rules()
 /// broken, and never both.
 pub fn rules_give_one()
     ensures { RulesGiveOne }
+{}
+
+/// RDATA has parts exactly if it fills its shape, and they are those that fill it.
+pub fn parts_fill_shapes()
+    ensures { PartsFillShapes }
 {}
