@@ -13,7 +13,8 @@ use Rattle.cd_message.specs.Messages.{word, bytes_at}
 use Rattle.cd_message.specs.Rules.{ReadsEach, ReadsQuestion, ReadsRdata, ReadsRecord, ReadsSection, ReadsMessage}
 use Rattle.cd_message.specs.Valid.{Valid, ValidRecord, ValidSection}
 use Rattle.cd_message.specs.Written.{question_piece, record_piece, header_of, message_piece, written_message}
-use Rattle.cd_message.specs.WrittenLaws.{QuestionNumbersFit, RecordNumbersFit, NumbersFit}
+use Rattle.cd_message.specs.WrittenLaws.{QuestionNumbersFit, RecordNumbersFit, NumbersFit, WrittenMessagesAreRead}
+use Rattle.cd_message.proofs.MessagesByRules.{spelled_by_rules}
 use Rattle.cd_message.proofs.Fields.{BytesAt, word_there, first_word_there, word_of_number, words_of_number}
 use Rattle.cd_message.proofs.PieceReadings.{IsRead, IsReadAs, ReadsInTurn, ReadsItems, read_otherwise, bytes_are_read, name_is_read, in_turn_are_read, each_in_turn_is_read, with_length_is_read}
 use Rattle.cd_message.proofs.WrittenRdata.{rdata_is_read}
@@ -133,11 +134,15 @@ parts_are_message m fit valid p used parts =
           (told 10 (length m.additional) (omega arith) (word_of_number (length m.additional) (omega (arith, valid.additional.few_records)))) parts.2.2.2.2;
     }
 
--- a valid message that is written in at most 65,535 bytes is what the rules read in its bytes, to the last of them
-pub written_is_read : (m : Message) → NumbersFit m → Valid m → length (written_message m) ≤ 65535 → ReadsMessage (written_message m) m (length (written_message m))
+-- the bytes of a valid message are what the rules read as it, to the last of them
+written_is_read : (m : Message) → NumbersFit m → Valid m → length (written_message m) ≤ 65535 → ReadsMessage (written_message m) m (length (written_message m))
 written_is_read m fit valid size =
     let bytes : List ℕ = written_message m in
     let parts = ((parts_are_read m fit valid).behind [] [] (All-nil _) size).reads [] in
     let end : 0 + length bytes ≡ length bytes = omega arith in
     subst (λ p. ReadsMessage p m (length bytes)) (append-nil bytes)
     (subst (λ used. ReadsMessage (bytes ++ []) m used) end (parts_are_message m fit valid (bytes ++ []) (0 + length bytes) parts))
+
+-- a valid message that is written in at most 65,535 bytes is read as itself, to the last of them
+pub written_messages_are_read : WrittenMessagesAreRead
+written_messages_are_read m fit valid size = (spelled_by_rules (written_message m) m (length (written_message m))).1 (written_is_read m fit valid size)

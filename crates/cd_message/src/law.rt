@@ -1,9 +1,8 @@
-//! Laws of the reading of messages, each the contract of a function that does nothing.
+//! Laws of messages that are read and written, each the contract of a function that does nothing.
 
 ghost use Rattle.cd_message.specs.MessageLaws.{MessagesAreValid, MessagesLieWithin, MessagesStay, ReadMessagesAreLight, RdataKeepsShape, ShapedRdataIsItself};
 ghost use Rattle.cd_message.specs.Rules.{SpelledByRules, BrokenByRules, RulesGiveOne};
-ghost use Rattle.cd_message.specs.MessageLaws.{MessagesAreValid, RdataKeepsShape, ShapedRdataIsItself, OneAnswerEach};
-ghost use Rattle.cd_message.specs.WrittenLaws.{PartsFillShapes};
+ghost use Rattle.cd_message.specs.WrittenLaws.{PartsFillShapes, WrittenMessagesAreRead};
 
 /// A message that is read is valid.
 pub fn messages_are_valid()
@@ -47,4 +46,9 @@ pub fn rules_give_one()
 /// RDATA has parts exactly if it fills its shape, and they are those that fill it.
 pub fn parts_fill_shapes()
     ensures { PartsFillShapes }
+{}
+
+/// A valid message that is written in at most 65,535 bytes is read as itself, to the last of them.
+pub fn written_messages_are_read()
+    ensures { WrittenMessagesAreRead }
 {}

@@ -23,8 +23,8 @@ mod weighing;
 
 pub use law::{
     messages_are_valid, messages_follow_the_rules, messages_lie_within, messages_stay,
-    rdata_keeps_its_shape, read_messages_are_light, rules_give_one,
-    each_payload_has_one_answer, messages_are_valid, parts_fill_shapes, rdata_keeps_its_shape,
+    parts_fill_shapes, rdata_keeps_its_shape, read_messages_are_light, rules_give_one,
+    written_messages_are_read,
 };
 pub use message::{Message, MsgWhy, OPT, ParseFault, Parsed, Question, Rr};
 pub use message_reading::parse;
