@@ -5,14 +5,12 @@ use Rattle.cd_name.proofs.Longer.{names_stay}
 use Rattle.cd_message.specs.declared.message.Question.{Question}
 use Rattle.cd_message.specs.declared.message.Rr.{Rr}
 use Rattle.cd_message.specs.declared.message.Message.{Message}
-use Rattle.cd_message.specs.Messages.{word, bytes_at}
+use Rattle.cd_bytes.specs.Numbers.{be16, be32}
+use Rattle.cd_bytes.proofs.Offsets.{be16-append, be32-append}
+use Rattle.cd_message.specs.Messages.{bytes_at}
 use Rattle.cd_message.specs.MessageLaws.{MessagesStay}
 use Rattle.cd_message.specs.Rules.{ReadsEach, none, one_more, ReadsQuestion, RdataNameAt, ReadsRdata, empty, any_bytes, shaped, ReadsRecord, ReadsSection, ReadsMessage}
 use Rattle.cd_message.proofs.MessagesByRules.{spelled_by_rules}
-
--- a number of two bytes that are there stays
-word_stays : (p more : List ℕ) (at : ℕ) → at + 1 < length p → word (p ++ more) at ≡ word p at
-word_stays p more at h = rw (get_or_append_left p more 0 at (omega arith), get_or_append_left p more 0 (at + 1) h) refl
 
 -- bytes that are there stay
 bytes_stay : (p more : List ℕ) (at count : ℕ) → at + count ≤ length p → bytes_at (p ++ more) at count ≡ bytes_at p at count
@@ -31,8 +29,8 @@ question_stays p more at q next reads =
     record {
       name_end = reads.name_end;
       is_named = names_stay p more at q.name reads.name_end reads.is_named;
-      is_type = reads.is_type ∙ sym (word_stays p more reads.name_end (omega (arith, reads.ends, reads.is_there)));
-      is_class = reads.is_class ∙ sym (word_stays p more (reads.name_end + 2) (omega (arith, reads.ends, reads.is_there)));
+      is_type = reads.is_type ∙ sym (be16-append reads.name_end p more (omega (arith, reads.ends, reads.is_there)));
+      is_class = reads.is_class ∙ sym (be16-append (reads.name_end + 2) p more (omega (arith, reads.ends, reads.is_there)));
       ends = reads.ends;
       is_there = omega (arith, reads.is_there, length-append p more);
     }
@@ -58,10 +56,10 @@ record_stays p more at r next reads =
     record {
       owner_end = e;
       is_owned = names_stay p more at r.owner e reads.is_owned;
-      is_type = reads.is_type ∙ sym (word_stays p more e (omega arith));
-      is_class = reads.is_class ∙ sym (word_stays p more (e + 2) (omega arith));
-      is_ttl = rw (word_stays p more (e + 4) (omega arith), word_stays p more (e + 6) (omega arith)) reads.is_ttl;
-      ends = rw (word_stays p more (e + 8) (omega arith)) reads.ends;
+      is_type = reads.is_type ∙ sym (be16-append e p more (omega arith));
+      is_class = reads.is_class ∙ sym (be16-append (e + 2) p more (omega arith));
+      is_ttl = reads.is_ttl ∙ sym (be32-append (e + 4) p more (omega arith));
+      ends = rw (be16-append (e + 8) p more (omega arith)) reads.ends;
       is_there = omega (arith, reads.is_there, length-append p more);
       has_rdata = rdata_stays more (omega (arith, reads.ends)) reads.is_there reads.has_rdata;
     }
@@ -80,12 +78,12 @@ stays p more m used reads =
       answers_end = reads.answers_end;
       authority_end = reads.authority_end;
       header = omega (arith, reads.header, length-append p more);
-      is_id = reads.is_id ∙ sym (word_stays p more 0 (omega (arith, reads.header)));
-      are_bits = reads.are_bits ∙ sym (word_stays p more 2 (omega (arith, reads.header)));
-      has_questions = rw (word_stays p more 4 (omega (arith, reads.header))) (each_stays (question_stays p more) reads.has_questions);
-      has_answers = section_stays p more 0 _ _ reads.questions_end m.answers reads.answers_end (word_stays p more 6 (omega (arith, reads.header))) reads.has_answers;
-      has_authority = section_stays p more 0 _ _ reads.answers_end m.authority reads.authority_end (word_stays p more 8 (omega (arith, reads.header))) reads.has_authority;
-      has_additional = section_stays p more 1 _ _ reads.authority_end m.additional used (word_stays p more 10 (omega (arith, reads.header))) reads.has_additional;
+      is_id = reads.is_id ∙ sym (be16-append 0 p more (omega (arith, reads.header)));
+      are_bits = reads.are_bits ∙ sym (be16-append 2 p more (omega (arith, reads.header)));
+      has_questions = rw (be16-append 4 p more (omega (arith, reads.header))) (each_stays (question_stays p more) reads.has_questions);
+      has_answers = section_stays p more 0 _ _ reads.questions_end m.answers reads.answers_end (be16-append 6 p more (omega (arith, reads.header))) reads.has_answers;
+      has_authority = section_stays p more 0 _ _ reads.answers_end m.authority reads.authority_end (be16-append 8 p more (omega (arith, reads.header))) reads.has_authority;
+      has_additional = section_stays p more 1 _ _ reads.authority_end m.additional used (be16-append 10 p more (omega (arith, reads.header))) reads.has_additional;
     }
 
 -- the law on messages with more bytes behind them

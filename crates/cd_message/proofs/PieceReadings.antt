@@ -9,7 +9,7 @@ use Rattle.cd_name.specs.Names.{IsName, NameAt}
 use Rattle.cd_name.specs.WrittenNames.{Suffix, Piece, Written, name_piece, SuffixesAreRead}
 use Rattle.cd_name.proofs.Longer.{names_stay}
 use Rattle.cd_name.proofs.WrittenRead.{written_names_are_read}
-use Rattle.cd_message.specs.Messages.{word}
+use Rattle.cd_bytes.specs.Numbers.{be16, be32}
 use Rattle.cd_message.specs.Rules.{ReadsEach, none, one_more}
 use Rattle.cd_message.specs.Written.{bytes_piece, in_turn, each_in_turn, with_length}
 use Rattle.cd_message.proofs.Fields.{BytesAt, first_word_there, word_of_number}
@@ -132,7 +132,7 @@ each_in_turn_is_read {A} Reads piece (x ∷ xs) are =
 
 -- two bytes tell where a reading ends that begins behind them
 abbrev pub ReadsWithLength : (List ℕ → ℕ → ℕ → Type 0) → List ℕ → ℕ → ℕ → Type 0
-ReadsWithLength Reads p at next = (next ≡ at + 2 + word p at) × Reads p (at + 2) next
+ReadsWithLength Reads p at next = (next ≡ at + 2 + be16 at p) × Reads p (at + 2) next
 
 -- a piece with its length before it is read behind that
 pub with_length_is_read : {Reads : List ℕ → ℕ → ℕ → Type 0} {piece : Piece} → IsRead Reads piece → IsRead (ReadsWithLength Reads) (with_length piece)
@@ -151,7 +151,7 @@ with_length_is_read {Reads} {piece} is = record {
             (let both = parts.reads more in
             let p : List ℕ = bytes ++ (head ++ w.bytes) ++ more in
             let next : ℕ = length bytes + length (head ++ w.bytes) in
-            let told : word p (length bytes) ≡ length w.bytes = first_word_there head p (length bytes) both.1.0 (omega arith) ∙ word_of_number (length w.bytes) small in
+            let told : be16 (length bytes) p ≡ length w.bytes = first_word_there head p (length bytes) both.1.0 (omega arith) ∙ word_of_number (length w.bytes) small in
             (omega arith, subst (λ k. Reads p k next) both.1.1 both.2));
         suffixes = parts.suffixes;
       });

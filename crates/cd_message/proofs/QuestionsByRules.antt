@@ -4,7 +4,8 @@ use Rattle.std.proofs.lemmas.Bool.{cases_lt, le-ltb, lt-ltb}
 use Rattle.cd_message.specs.declared.message.MsgWhy.{MsgWhy}
 use Rattle.cd_message.specs.declared.message.MsgWhy.TheVariants.{Short}
 use Rattle.cd_message.specs.declared.message.Question.{Question}
-use Rattle.cd_message.specs.Messages.{word, why_of, question_at}
+use Rattle.cd_bytes.specs.Numbers.{be16, be32}
+use Rattle.cd_message.specs.Messages.{why_of, question_at}
 use Rattle.cd_message.specs.Rules.{ReadsQuestion, BreaksQuestion, question_name, question_fields}
 use Rattle.cd_message.proofs.Decides.{Decides}
 use Rattle.cd_message.proofs.NamesByRules.{name_or_rule, name_is_read, name_is_broken}
@@ -20,7 +21,7 @@ unfolding question_at
 question_is_read p at x h =
     let name = name_is_read p at x.0.name h.name_end h.is_named in
     rw (name, le-ltb (length p) (h.name_end + 4) (omega (arith, h.is_there, h.ends)))
-    (ap Ok (same_question x (word p h.name_end) (word p (h.name_end + 2)) (h.name_end + 4) (sym h.is_type) (sym h.is_class) (sym h.ends)))
+    (ap Ok (same_question x (be16 h.name_end p) (be16 (h.name_end + 2) p) (h.name_end + 4) (sym h.is_type) (sym h.is_class) (sym h.ends)))
 
 -- a rule that the rules say a question breaks is broken
 question_is_broken : (p : List ℕ) (at : ℕ) (why : MsgWhy) → BreaksQuestion p at why → question_at p at ≡ Err why
@@ -38,7 +39,7 @@ question_answer p at =
             | inl cut ↦ inr (Short, question_fields name.0.0 name.0.1 name.1 cut refl)
             | inr there ↦
                 inl (
-                  (record { name = name.0.0; rtype = word p name.0.1; rclass = word p (name.0.1 + 2) }, name.0.1 + 4),
+                  (record { name = name.0.0; rtype = be16 name.0.1 p; rclass = be16 (name.0.1 + 2) p }, name.0.1 + 4),
                   record { name_end = name.0.1; is_named = name.1; is_type = refl; is_class = refl; ends = refl; is_there = there },
                 )
           ]

@@ -6,7 +6,8 @@ use Rattle.cd_name.proofs.Names.{names_are_names}
 use Rattle.cd_message.specs.declared.message.MsgWhy.{MsgWhy}
 use Rattle.cd_message.specs.declared.message.MsgWhy.TheVariants.{Short, Opt}
 use Rattle.cd_message.specs.declared.message.Rr.{Rr}
-use Rattle.cd_message.specs.Messages.{word, why_of, breaks_opt_rule, record_behind_owner, record_at}
+use Rattle.cd_bytes.specs.Numbers.{be16, be32}
+use Rattle.cd_message.specs.Messages.{why_of, breaks_opt_rule, record_behind_owner, record_at}
 use Rattle.cd_message.specs.Rules.{ReadsRdata, ReadsRecord, BreaksOptRule, BreaksRecord, record_owner, record_fields, record_opt, rdata_bytes, record_rdata}
 use Rattle.cd_message.proofs.NamesByRules.{name_or_rule, name_is_read, name_is_broken}
 use Rattle.cd_message.proofs.RdataByRules.{rdata_by_rules}
@@ -16,15 +17,15 @@ use Rattle.cd_message.proofs.OptRule.{opt_allowed_after, test_of_rule, test_of_k
 abbrev record_of : List ℕ → List ℕ → ℕ → List ℕ → Rr
 record_of p owner at rdata = record {
   owner = owner;
-  rtype = word p at;
-  rclass = word p (at + 2);
-  ttl = word p (at + 4) * 65536 + word p (at + 6);
+  rtype = be16 at p;
+  rclass = be16 (at + 2) p;
+  ttl = be32 (at + 4) p;
   rdata = rdata;
 }
 
 -- the offset behind that record
 abbrev record_end : List ℕ → ℕ → ℕ
-record_end p at = at + 10 + word p (at + 8)
+record_end p at = at + 10 + be16 (at + 8) p
 
 -- the test of an OPT record does not hold of a name that keeps the rule
 opt_is_kept : (p : List ℕ) (opts : ℕ) (before : List Rr) (rtype at : ℕ) (owner : List ℕ) (next : ℕ) → NameAt p at owner next → (BreaksOptRule opts before rtype owner → ⊥) →
@@ -40,13 +41,13 @@ opt_is_broken p opts before rtype at owner next named breaks =
 
 -- a record is read by its parts
 parts_are_read : (p : List ℕ) (opts : ℕ) (before : List Rr) (at : ℕ) (owner : List ℕ) (next : ℕ) (rdata : List ℕ) → NameAt p at owner next → record_end p next ≤ length p →
-    (BreaksOptRule opts before (word p next) owner → ⊥) → ReadsRdata p (word p next) (next + 10) (record_end p next) rdata →
+    (BreaksOptRule opts before (be16 next p) owner → ⊥) → ReadsRdata p (be16 next p) (next + 10) (record_end p next) rdata →
     record_at p (opt_allowed_after opts before) at ≡ Ok (record_of p owner next rdata, record_end p next)
 unfolding record_at record_behind_owner
 parts_are_read p opts before at owner next rdata named there kept reads =
     let name = name_is_read p at owner next named in
-    let opt = opt_is_kept p opts before (word p next) at owner next named kept in
-    let read = (rdata_by_rules p (word p next) (next + 10) (record_end p next) there).read rdata reads in
+    let opt = opt_is_kept p opts before (be16 next p) at owner next named kept in
+    let read = (rdata_by_rules p (be16 next p) (next + 10) (record_end p next) there).read rdata reads in
     rw (name, le-ltb (length p) (next + 10) (omega arith), opt, le-ltb (length p) (record_end p next) there, read) refl
 
 -- a record with the same parts, and the same offset behind it
@@ -58,13 +59,13 @@ same_record x rtype rclass ttl next h k m n = rw (h, k, m, n) refl
 pub record_is_read : (p : List ℕ) (opts : ℕ) (before : List Rr) (at : ℕ) (x : Rr × ℕ) → ReadsRecord p at x.0 x.1 → (BreaksOptRule opts before x.0.rtype x.0.owner → ⊥) →
     record_at p (opt_allowed_after opts before) at ≡ Ok x
 record_is_read p opts before at x h kept =
-    let typed : ReadsRdata p (word p h.owner_end) (h.owner_end + 10) x.1 x.0.rdata =
+    let typed : ReadsRdata p (be16 h.owner_end p) (h.owner_end + 10) x.1 x.0.rdata =
     subst (λ t. ReadsRdata p t (h.owner_end + 10) x.1 x.0.rdata) h.is_type h.has_rdata in
-    let reads : ReadsRdata p (word p h.owner_end) (h.owner_end + 10) (record_end p h.owner_end) x.0.rdata =
-    subst (λ k. ReadsRdata p (word p h.owner_end) (h.owner_end + 10) k x.0.rdata) h.ends typed in
+    let reads : ReadsRdata p (be16 h.owner_end p) (h.owner_end + 10) (record_end p h.owner_end) x.0.rdata =
+    subst (λ k. ReadsRdata p (be16 h.owner_end p) (h.owner_end + 10) k x.0.rdata) h.ends typed in
     let read = parts_are_read p opts before at x.0.owner h.owner_end x.0.rdata h.is_owned (omega (arith, h.is_there, h.ends))
     (subst (λ t. BreaksOptRule opts before t x.0.owner → ⊥) h.is_type kept) reads in
-    read ∙ ap Ok (same_record x (word p h.owner_end) (word p (h.owner_end + 2)) (word p (h.owner_end + 4) * 65536 + word p (h.owner_end + 6)) (record_end p h.owner_end)
+    read ∙ ap Ok (same_record x (be16 h.owner_end p) (be16 (h.owner_end + 2) p) (be32 (h.owner_end + 4) p) (record_end p h.owner_end)
     (sym h.is_type) (sym h.is_class) (sym h.is_ttl) (sym h.ends))
 
 -- a rule that the rules say a record breaks is broken
@@ -75,16 +76,16 @@ record_is_broken p opts why before at (record_owner broken h told) = rw (name_is
 record_is_broken p opts why before at (record_fields owner next named cut told) =
     rw (name_is_read p at owner next named, lt-ltb (length p) (next + 10) cut) (ap Err (sym told))
 record_is_broken p opts why before at (record_opt owner next named there breaks told) =
-    rw (name_is_read p at owner next named, le-ltb (length p) (next + 10) there, opt_is_broken p opts before (word p next) at owner next named breaks) (ap Err (sym told))
+    rw (name_is_read p at owner next named, le-ltb (length p) (next + 10) there, opt_is_broken p opts before (be16 next p) at owner next named breaks) (ap Err (sym told))
 record_is_broken p opts why before at (rdata_bytes owner next named there kept cut told) =
-    rw (name_is_read p at owner next named, le-ltb (length p) (next + 10) there, opt_is_kept p opts before (word p next) at owner next named kept, lt-ltb (length p) (record_end p next) cut)
+    rw (name_is_read p at owner next named, le-ltb (length p) (next + 10) there, opt_is_kept p opts before (be16 next p) at owner next named kept, lt-ltb (length p) (record_end p next) cut)
     (ap Err (sym told))
 record_is_broken p opts why before at (record_rdata owner next named kept there breaks) =
-    let broken = (rdata_by_rules p (word p next) (next + 10) (record_end p next) there).broken why breaks in
+    let broken = (rdata_by_rules p (be16 next p) (next + 10) (record_end p next) there).broken why breaks in
     rw (
       name_is_read p at owner next named,
       le-ltb (length p) (next + 10) (omega arith),
-      opt_is_kept p opts before (word p next) at owner next named kept,
+      opt_is_kept p opts before (be16 next p) at owner next named kept,
       le-ltb (length p) (record_end p next) there,
       broken,
     )
@@ -97,9 +98,9 @@ RecordAnswer p opts before at =
 
 -- the rules have an answer on a record whose bytes are there
 there_answer : (p : List ℕ) (opts : ℕ) (before : List Rr) (at : ℕ) (owner : List ℕ) (next : ℕ) → NameAt p at owner next → record_end p next ≤ length p →
-    (BreaksOptRule opts before (word p next) owner → ⊥) → RecordAnswer p opts before at
+    (BreaksOptRule opts before (be16 next p) owner → ⊥) → RecordAnswer p opts before at
 there_answer p opts before at owner next named there kept =
-    elim (rdata_by_rules p (word p next) (next + 10) (record_end p next) there).answer [
+    elim (rdata_by_rules p (be16 next p) (next + 10) (record_end p next) there).answer [
       | inr a ↦ inr (a.0, record_rdata owner next named kept there a.1)
       | inl a ↦
           inl (
@@ -115,7 +116,7 @@ behind_owner_answer p opts before at owner next named =
     elim (cases_lt (length p) (next + 10)) [
       | inl cut ↦ inr (Short, record_fields owner next named cut refl)
       | inr there ↦
-          elim (test_of_rule opts before (word p next) owner (names_are_names p at owner next named).0) [
+          elim (test_of_rule opts before (be16 next p) owner (names_are_names p at owner next named).0) [
             | inl opt ↦ inr (Opt, record_opt owner next named there opt.1 refl)
             | inr opt ↦
                 elim (cases_lt (length p) (record_end p next)) [

@@ -14,7 +14,8 @@ use Rattle.cd_message.specs.declared.message.Message.{Message}
 use Rattle.cd_message.specs.declared.message.TheConstants.{OPT}
 use Rattle.cd_message.specs.declared.shape.Shape as kind
 use Rattle.cd_message.specs.Readings.{repeat}
-use Rattle.cd_message.specs.Messages.{rdata_of_shape, word, why_of, name_in, question_at, breaks_opt_rule, record_behind_owner, record_at, opt_allowed_behind, record_step, records_at, message_of, rdata_at}
+use Rattle.cd_bytes.specs.Numbers.{be16, be32}
+use Rattle.cd_message.specs.Messages.{rdata_of_shape, why_of, name_in, question_at, breaks_opt_rule, record_behind_owner, record_at, opt_allowed_behind, record_step, records_at, message_of, rdata_at}
 use Rattle.cd_message.specs.Shapes.{shape_of, shape, holds_name, holds_number_and_name}
 use Rattle.cd_message.specs.Valid.{FillsShape, KeepsShape, is_opt, ValidRecord, ValidSection, Valid}
 use Rattle.cd_message.specs.MessageLaws.{AreBytes, MessagesAreValid}
@@ -27,7 +28,8 @@ unfolding name_in
 named p at x h = let n = names_are_names p at x.0 x.1 (name_reading_ok why_of (name_at p at) x h) in (n.0, n.2)
 
 -- two bytes make a number of at most 65,535
-word_fits : (p : List ℕ) (k : ℕ) → AreBytes p → word p k ≤ 65535
+word_fits : (p : List ℕ) (k : ℕ) → AreBytes p → be16 k p ≤ 65535
+unfolding be16
 word_fits p k bytes = omega (arith, bytes k, bytes (k + 1))
 
 -- at most 6 bytes, 2 names and 20 bytes
@@ -162,19 +164,19 @@ behind_owner_fits : (p : List ℕ) (allowed : Bool) (owner : List ℕ) (at : ℕ
 unfolding record_behind_owner
 behind_owner_fits p allowed owner at x bytes is h =
     let one = if_err_else (nat_lt (length p) (at + 10)) Short _ x h in
-    let two = if_err_else (breaks_opt_rule allowed (word p at) owner) Opt _ x one.1 in
-    let three = if_err_else (nat_lt (length p) (at + 10 + word p (at + 8))) Short _ x two.1 in
-    let four = bind_ok (rdata_at (word p at) p (at + 10) (at + 10 + word p (at + 8))) _ x three.1 in
-    let within : at + 10 + word p (at + 8) ≤ length p = ltb-false (length p) (at + 10 + word p (at + 8)) three.0 in
-    let keeps = rdata_keeps_shape (word p at) p (at + 10) (at + 10 + word p (at + 8)) four.0 within (omega arith) four.1 in
+    let two = if_err_else (breaks_opt_rule allowed (be16 at p) owner) Opt _ x one.1 in
+    let three = if_err_else (nat_lt (length p) (at + 10 + be16 (at + 8) p)) Short _ x two.1 in
+    let four = bind_ok (rdata_at (be16 at p) p (at + 10) (at + 10 + be16 (at + 8) p)) _ x three.1 in
+    let within : at + 10 + be16 (at + 8) p ≤ length p = ltb-false (length p) (at + 10 + be16 (at + 8) p) three.0 in
+    let keeps = rdata_keeps_shape (be16 at p) p (at + 10) (at + 10 + be16 (at + 8) p) four.0 within (omega arith) four.1 in
     subst (λ v. FitsPlace allowed v) (ok_same _ x four.2) (record {
       valid = record {
         owner_is_name = is;
-        rdata_fits = rdata_fits (word p at) p (at + 10) (at + 10 + word p (at + 8)) four.0 keeps (omega (arith, word_fits p (at + 8) bytes)) four.1;
+        rdata_fits = rdata_fits (be16 at p) p (at + 10) (at + 10 + be16 (at + 8) p) four.0 keeps (omega (arith, word_fits p (at + 8) bytes)) four.1;
         rdata_keeps_shape = keeps;
-        opt_owner_is_root = opt_is_of_root allowed (word p at) owner is two.0;
+        opt_owner_is_root = opt_is_of_root allowed (be16 at p) owner is two.0;
       };
-      opts = opts_fall (nat_eq (word p at) OPT) allowed (nat_lt 1 (length owner)) two.0;
+      opts = opts_fall (nat_eq (be16 at p) OPT) allowed (nat_lt 1 (length owner)) two.0;
     })
 
 -- a record that is read fits its place
@@ -262,19 +264,19 @@ unfolding message_of
 messages_are_valid p m used bytes h =
     let x : Message × ℕ = (m, used) in
     let start = if_err_else (nat_lt (length p) 12) Short _ x h in
-    let q = bind_ok (repeat (question_at p) (word p 4) 12) _ x start.1 in
-    let a = bind_ok (records_at p (word p 6) false q.0.1) _ x q.2 in
-    let n = bind_ok (records_at p (word p 8) false a.0.1) _ x a.2 in
-    let d = bind_ok (records_at p (word p 10) true n.0.1) _ x n.2 in
-    let questions = questions_fit p (word p 4) 12 q.0 q.1 in
+    let q = bind_ok (repeat (question_at p) (be16 4 p) 12) _ x start.1 in
+    let a = bind_ok (records_at p (be16 6 p) false q.0.1) _ x q.2 in
+    let n = bind_ok (records_at p (be16 8 p) false a.0.1) _ x a.2 in
+    let d = bind_ok (records_at p (be16 10 p) true n.0.1) _ x n.2 in
+    let questions = questions_fit p (be16 4 p) 12 q.0 q.1 in
     let read : Message × ℕ =
-    (record { id = word p 0; bits = word p 2; questions = q.0.0; answers = a.0.0; authority = n.0.0; additional = d.0.0 }, d.0.1) in
+    (record { id = be16 0 p; bits = be16 2 p; questions = q.0.0; answers = a.0.0; authority = n.0.0; additional = d.0.0 }, d.0.1) in
     same_is_valid read x (ok_same read x d.2) (record {
       names_are_names = questions.each;
       few_questions = omega (arith, questions.size, word_fits p 4 bytes);
-      answers = section_is_valid false (word p 6) a.0.0 (word_fits p 6 bytes) (section_fits p (word p 6) false q.0.1 a.0 bytes a.1);
-      authority = section_is_valid false (word p 8) n.0.0 (word_fits p 8 bytes) (section_fits p (word p 8) false a.0.1 n.0 bytes n.1);
-      additional = section_is_valid true (word p 10) d.0.0 (word_fits p 10 bytes) (section_fits p (word p 10) true n.0.1 d.0 bytes d.1);
+      answers = section_is_valid false (be16 6 p) a.0.0 (word_fits p 6 bytes) (section_fits p (be16 6 p) false q.0.1 a.0 bytes a.1);
+      authority = section_is_valid false (be16 8 p) n.0.0 (word_fits p 8 bytes) (section_fits p (be16 8 p) false a.0.1 n.0 bytes n.1);
+      additional = section_is_valid true (be16 10 p) d.0.0 (word_fits p 10 bytes) (section_fits p (be16 10 p) true n.0.1 d.0 bytes d.1);
     })
 
 -- the same, from what is known of a slice of bytes

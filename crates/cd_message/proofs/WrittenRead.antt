@@ -9,13 +9,14 @@ use Rattle.cd_message.specs.declared.message.Question.{Question}
 use Rattle.cd_message.specs.declared.message.Rr.{Rr}
 use Rattle.cd_message.specs.declared.message.Message.{Message}
 use Rattle.cd_message.specs.declared.message.TheConstants.{OPT}
-use Rattle.cd_message.specs.Messages.{word, bytes_at}
+use Rattle.cd_bytes.specs.Numbers.{be16, be32}
+use Rattle.cd_message.specs.Messages.{bytes_at}
 use Rattle.cd_message.specs.Rules.{ReadsEach, ReadsQuestion, ReadsRdata, ReadsRecord, ReadsSection, ReadsMessage}
 use Rattle.cd_message.specs.Valid.{Valid, ValidRecord, ValidSection}
 use Rattle.cd_message.specs.Written.{question_piece, record_piece, header_of, message_piece, written_message}
 use Rattle.cd_message.specs.WrittenLaws.{QuestionNumbersFit, RecordNumbersFit, NumbersFit, WrittenMessagesAreRead}
 use Rattle.cd_message.proofs.MessagesByRules.{spelled_by_rules}
-use Rattle.cd_message.proofs.Fields.{BytesAt, word_there, first_word_there, word_of_number, words_of_number}
+use Rattle.cd_message.proofs.Fields.{BytesAt, word_there, first_word_there, word_of_number, four_there, four_of_number}
 use Rattle.cd_message.proofs.PieceReadings.{IsRead, IsReadAs, ReadsInTurn, ReadsItems, read_otherwise, bytes_are_read, name_is_read, in_turn_are_read, each_in_turn_is_read, with_length_is_read}
 use Rattle.cd_message.proofs.WrittenRdata.{rdata_is_read}
 
@@ -25,7 +26,7 @@ question_fields q = to_be_bytes w16 q.rtype ++ to_be_bytes w16 q.rclass
 
 -- a question is read as itself
 question_is_read : (q : Question) → QuestionNumbersFit q → IsName q.name → IsReadAs ReadsQuestion q (question_piece q)
-unfolding question_piece
+unfolding question_piece be16
 question_is_read q fit is =
     read_otherwise (λ p at next within parts.
     let fields : List ℕ = question_fields q in
@@ -44,25 +45,22 @@ record_fields r = to_be_bytes w16 r.rtype ++ to_be_bytes w16 r.rclass ++ to_be_b
 
 -- a record is read as itself
 record_is_read : (r : Rr) → RecordNumbersFit r → ValidRecord r → IsReadAs ReadsRecord r (record_piece r)
-unfolding record_piece
+unfolding record_piece be16 be32
 record_is_read r fit valid =
     read_otherwise (λ p at next within parts.
     let fields : List ℕ = record_fields r in
     let owner_end : ℕ = parts.0 in
     let there : bytes_at p owner_end (length fields) ≡ fields = parts.2.1.0 in
     let behind : parts.2.0 ≡ owner_end + 8 = parts.2.1.1 in
-    let size : word p parts.2.0 ≡ word p (owner_end + 8) = ap (λ k. word p k) behind in
-    let ends : next ≡ parts.2.0 + 2 + word p parts.2.0 = parts.2.2.0 in
+    let size : be16 parts.2.0 p ≡ be16 (owner_end + 8) p = ap (λ k. be16 k p) behind in
+    let ends : next ≡ parts.2.0 + 2 + be16 parts.2.0 p = parts.2.2.0 in
     let place : parts.2.0 + 2 ≡ owner_end + 10 = omega arith in
     record {
       owner_end = owner_end;
       is_owned = parts.1;
       is_type = sym (first_word_there fields p owner_end there (omega arith) ∙ word_of_number r.rtype fit.0);
       is_class = sym (word_there fields p owner_end 2 there (omega arith) ∙ word_of_number r.rclass fit.1);
-      is_ttl =
-          (let high = word_there fields p owner_end 4 there (omega arith) in
-          let low = word_there fields p owner_end 6 there (omega arith) in
-          rw (high, low) (sym (words_of_number r.ttl fit.2)));
+      is_ttl = sym (four_there fields p owner_end 4 there (omega arith) ∙ four_of_number r.ttl fit.2);
       ends = omega arith;
       is_there = within;
       has_rdata = subst (λ k. ReadsRdata p r.rtype k next r.rdata) place parts.2.2.1;
@@ -110,11 +108,12 @@ section_is_read p opts count at rs end valid told are = record {
 
 -- where the parts of a message stand, it is spelled
 parts_are_message : (m : Message) → NumbersFit m → Valid m → (p : List ℕ) (used : ℕ) → PartsAt m p 0 used → ReadsMessage p m used
+unfolding be16
 parts_are_message m fit valid p used parts =
     let header : List ℕ = header_of m in
     let there : bytes_at p 0 12 ≡ header = parts.1.0 in
     let start : parts.0 ≡ 12 = parts.1.1 in
-    let told : (i n : ℕ) → i + 1 < 12 → word header i ≡ n → word p (0 + i) ≡ n = λ (i n : ℕ) (within : i + 1 < 12) (e : word header i ≡ n). word_there header p 0 i there within ∙ e in
+    let told : (i n : ℕ) → i + 1 < 12 → be16 i header ≡ n → be16 (0 + i) p ≡ n = λ (i n : ℕ) (within : i + 1 < 12) (e : be16 i header ≡ n). word_there header p 0 i there within ∙ e in
     record {
       questions_end = parts.2.0;
       answers_end = parts.2.2.0;
@@ -123,14 +122,14 @@ parts_are_message m fit valid p used parts =
       is_id = sym (told 0 m.id (omega arith) (word_of_number m.id fit.id));
       are_bits = sym (told 2 m.bits (omega arith) (word_of_number m.bits fit.bits));
       has_questions =
-          (let count : word p 4 ≡ length m.questions = told 4 (length m.questions) (omega arith) (word_of_number (length m.questions) (omega (arith, valid.few_questions))) in
+          (let count : be16 4 p ≡ length m.questions = told 4 (length m.questions) (omega arith) (word_of_number (length m.questions) (omega (arith, valid.few_questions))) in
           subst (λ k. ReadsEach (ReadsQuestion p) k 12 m.questions parts.2.0) (sym count)
           (subst (λ k. ReadsEach (ReadsQuestion p) (length m.questions) k m.questions parts.2.0) start parts.2.1));
-      has_answers = section_is_read p 0 (word p 6) parts.2.0 m.answers parts.2.2.0 valid.answers
+      has_answers = section_is_read p 0 (be16 6 p) parts.2.0 m.answers parts.2.2.0 valid.answers
           (told 6 (length m.answers) (omega arith) (word_of_number (length m.answers) (omega (arith, valid.answers.few_records)))) parts.2.2.1;
-      has_authority = section_is_read p 0 (word p 8) parts.2.2.0 m.authority parts.2.2.2.0 valid.authority
+      has_authority = section_is_read p 0 (be16 8 p) parts.2.2.0 m.authority parts.2.2.2.0 valid.authority
           (told 8 (length m.authority) (omega arith) (word_of_number (length m.authority) (omega (arith, valid.authority.few_records)))) parts.2.2.2.1;
-      has_additional = section_is_read p 1 (word p 10) parts.2.2.2.0 m.additional used valid.additional
+      has_additional = section_is_read p 1 (be16 10 p) parts.2.2.2.0 m.additional used valid.additional
           (told 10 (length m.additional) (omega arith) (word_of_number (length m.additional) (omega (arith, valid.additional.few_records)))) parts.2.2.2.2;
     }
 

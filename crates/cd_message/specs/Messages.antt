@@ -1,6 +1,7 @@
 -- DNS messages (RFC 1035 section 4, RFC 6891 section 6), read from left to right: the first rule that is broken is the answer.
 use Rattle.std.specs.Prelude.{◌≡◌, ℕ, ◌+◌, ◌-◌, ◌*◌, nat_lt, nat_eq, Bool, true, false, ◌&&◌, not, List, [], ◌++◌, length, take, drop, slice_index, if◌then◌else◌, Option, Some, None, Result, Ok, Err}
 use Rattle.std.specs.List.{concat}
+use Rattle.cd_bytes.specs.Numbers.{be16, be32}
 use Rattle.cd_name.specs.declared.fault.NameWhy.{NameWhy}
 use Rattle.cd_name.specs.declared.fault.NameWhy.TheVariants as name
 use Rattle.cd_name.specs.Names.{name_at, run_is_cut}
@@ -14,10 +15,6 @@ use Rattle.cd_message.specs.declared.message.TheConstants.{OPT}
 use Rattle.cd_message.specs.Readings.{◌>>=◌, repeat}
 use Rattle.cd_message.specs.Shapes.{shape_of}
 use Rattle.cd_message.specs.Valid.{is_opt}
-
--- the big-endian number of the two bytes at an offset
-abbrev pub word : List ℕ → ℕ → ℕ
-word payload at = slice_index payload at * 256 + slice_index payload (at + 1)
 
 -- so many bytes from an offset on
 abbrev pub bytes_at : List ℕ → ℕ → ℕ → List ℕ
@@ -51,7 +48,7 @@ unfoldable pub question_at : List ℕ → ℕ → Result (Question × ℕ) MsgWh
 question_at payload at = do
   name ← name_in payload at
   if nat_lt (length payload) (name.1 + 4) then Err Short
-      else Ok (record { name = name.0; rtype = word payload name.1; rclass = word payload (name.1 + 2) }, name.1 + 4)
+      else Ok (record { name = name.0; rtype = be16 name.1 payload; rclass = be16 (name.1 + 2) payload }, name.1 + 4)
 
 -- The name at an offset in RDATA that ends at `end`: its first run stands within the RDATA, the runs that its pointers lead to stand anywhere.
 unfoldable pub rdata_name : List ℕ → ℕ → ℕ → Result (List ℕ × ℕ) MsgWhy
@@ -86,16 +83,16 @@ breaks_opt_rule opt_allowed rtype owner = nat_eq rtype OPT && (if opt_allowed th
 -- The record whose owner ends at an offset, and the offset behind it: type, class, TTL, the length of the RDATA and the RDATA (RFC 1035 4.1.3).
 unfoldable pub record_behind_owner : List ℕ → Bool → List ℕ → ℕ → Result (Rr × ℕ) MsgWhy
 record_behind_owner payload opt_allowed owner at =
-    let rtype : ℕ = word payload at in
+    let rtype : ℕ = be16 at payload in
     let start : ℕ = at + 10 in
-    let end : ℕ = start + word payload (at + 8) in
+    let end : ℕ = start + be16 (at + 8) payload in
     if nat_lt (length payload) start then Err Short
     else (if breaks_opt_rule opt_allowed rtype owner then Err Opt
     else (if nat_lt (length payload) end then Err Short
     else (do
       rdata ← rdata_at rtype payload start end
       Ok (
-        record { owner = owner; rtype = rtype; rclass = word payload (at + 2); ttl = word payload (at + 4) * 65536 + word payload (at + 6); rdata = rdata },
+        record { owner = owner; rtype = rtype; rclass = be16 (at + 2) payload; ttl = be32 (at + 4) payload; rdata = rdata },
         end,
       ))))
 
@@ -127,12 +124,12 @@ unfoldable pub message_of : List ℕ → Result (Message × ℕ) MsgWhy
 message_of payload =
     if nat_lt (length payload) 12 then Err Short
     else (do
-      questions ← repeat (question_at payload) (word payload 4) 12
-      answers ← records_at payload (word payload 6) false questions.1
-      authority ← records_at payload (word payload 8) false answers.1
-      additional ← records_at payload (word payload 10) true authority.1
+      questions ← repeat (question_at payload) (be16 4 payload) 12
+      answers ← records_at payload (be16 6 payload) false questions.1
+      authority ← records_at payload (be16 8 payload) false answers.1
+      additional ← records_at payload (be16 10 payload) true authority.1
       Ok (
-        record { id = word payload 0; bits = word payload 2; questions = questions.0; answers = answers.0; authority = authority.0; additional = additional.0 },
+        record { id = be16 0 payload; bits = be16 2 payload; questions = questions.0; answers = answers.0; authority = authority.0; additional = additional.0 },
         additional.1,
       ))
 

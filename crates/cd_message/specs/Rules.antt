@@ -10,7 +10,8 @@ use Rattle.cd_message.specs.declared.message.Rr.{Rr}
 use Rattle.cd_message.specs.declared.message.Message.{Message}
 use Rattle.cd_message.specs.declared.message.TheConstants.{OPT}
 use Rattle.cd_message.specs.declared.shape.Shape as kind
-use Rattle.cd_message.specs.Messages.{Spells, Breaks, word, bytes_at, why_of, rdata_why_of}
+use Rattle.cd_bytes.specs.Numbers.{be16, be32}
+use Rattle.cd_message.specs.Messages.{Spells, Breaks, bytes_at, why_of, rdata_why_of}
 use Rattle.cd_message.specs.Shapes.{shape_of}
 use Rattle.cd_message.specs.Valid.{is_opt}
 
@@ -32,8 +33,8 @@ pub record BreaksAmong {A : Type 0} (Reads : ℕ → A → ℕ → Type 0) (Brok
 pub record ReadsQuestion (p : List ℕ) (at : ℕ) (q : Question) (next : ℕ) : Type 0 where
   pub name_end : ℕ
   pub is_named : NameAt p at q.name name_end
-  pub is_type : q.rtype ≡ word p name_end
-  pub is_class : q.rclass ≡ word p (name_end + 2)
+  pub is_type : q.rtype ≡ be16 name_end p
+  pub is_class : q.rclass ≡ be16 (name_end + 2) p
   pub ends : next ≡ name_end + 4
   pub is_there : next ≤ length p
 
@@ -79,10 +80,10 @@ pub data BreaksRdata (p : List ℕ) (rtype at end : ℕ) (why : MsgWhy) : Type 0
 pub record ReadsRecord (p : List ℕ) (at : ℕ) (r : Rr) (next : ℕ) : Type 0 where
   pub owner_end : ℕ
   pub is_owned : NameAt p at r.owner owner_end
-  pub is_type : r.rtype ≡ word p owner_end
-  pub is_class : r.rclass ≡ word p (owner_end + 2)
-  pub is_ttl : r.ttl ≡ word p (owner_end + 4) * 65536 + word p (owner_end + 6)
-  pub ends : next ≡ owner_end + 10 + word p (owner_end + 8)
+  pub is_type : r.rtype ≡ be16 owner_end p
+  pub is_class : r.rclass ≡ be16 (owner_end + 2) p
+  pub is_ttl : r.ttl ≡ be32 (owner_end + 4) p
+  pub ends : next ≡ owner_end + 10 + be16 (owner_end + 8) p
   pub is_there : next ≤ length p
   pub has_rdata : ReadsRdata p r.rtype (owner_end + 10) next r.rdata
 
@@ -107,14 +108,14 @@ pub data BreaksRecord (p : List ℕ) (opts : ℕ) (why : MsgWhy) (before : List 
   -- bytes between its owner and its RDATA are missing
   record_fields : (owner : List ℕ) (next : ℕ) → NameAt p at owner next → length p < next + 10 → why ≡ Short → BreaksRecord p opts why before at
   -- it breaks the rule of OPT records
-  record_opt : (owner : List ℕ) (next : ℕ) → NameAt p at owner next → next + 10 ≤ length p → BreaksOptRule opts before (word p next) owner → why ≡ Opt →
+  record_opt : (owner : List ℕ) (next : ℕ) → NameAt p at owner next → next + 10 ≤ length p → BreaksOptRule opts before (be16 next p) owner → why ≡ Opt →
       BreaksRecord p opts why before at
   -- bytes of its RDATA are missing
-  rdata_bytes : (owner : List ℕ) (next : ℕ) → NameAt p at owner next → next + 10 ≤ length p → (BreaksOptRule opts before (word p next) owner → ⊥) →
-      length p < next + 10 + word p (next + 8) → why ≡ Short → BreaksRecord p opts why before at
+  rdata_bytes : (owner : List ℕ) (next : ℕ) → NameAt p at owner next → next + 10 ≤ length p → (BreaksOptRule opts before (be16 next p) owner → ⊥) →
+      length p < next + 10 + be16 (next + 8) p → why ≡ Short → BreaksRecord p opts why before at
   -- its RDATA breaks a rule
-  record_rdata : (owner : List ℕ) (next : ℕ) → NameAt p at owner next → (BreaksOptRule opts before (word p next) owner → ⊥) →
-      next + 10 + word p (next + 8) ≤ length p → BreaksRdata p (word p next) (next + 10) (next + 10 + word p (next + 8)) why → BreaksRecord p opts why before at
+  record_rdata : (owner : List ℕ) (next : ℕ) → NameAt p at owner next → (BreaksOptRule opts before (be16 next p) owner → ⊥) →
+      next + 10 + be16 (next + 8) p ≤ length p → BreaksRdata p (be16 next p) (next + 10) (next + 10 + be16 (next + 8) p) why → BreaksRecord p opts why before at
 
 -- of the records of a section, the one behind some that are read and keep the rule of OPT records breaks a rule first
 abbrev pub BreaksSection : List ℕ → ℕ → ℕ → ℕ → MsgWhy → Type 0
@@ -127,27 +128,27 @@ pub record ReadsMessage (p : List ℕ) (m : Message) (used : ℕ) : Type 0 where
   pub answers_end : ℕ
   pub authority_end : ℕ
   pub header : 12 ≤ length p
-  pub is_id : m.id ≡ word p 0
-  pub are_bits : m.bits ≡ word p 2
-  pub has_questions : ReadsEach (ReadsQuestion p) (word p 4) 12 m.questions questions_end
-  pub has_answers : ReadsSection p 0 (word p 6) questions_end m.answers answers_end
-  pub has_authority : ReadsSection p 0 (word p 8) answers_end m.authority authority_end
-  pub has_additional : ReadsSection p 1 (word p 10) authority_end m.additional used
+  pub is_id : m.id ≡ be16 0 p
+  pub are_bits : m.bits ≡ be16 2 p
+  pub has_questions : ReadsEach (ReadsQuestion p) (be16 4 p) 12 m.questions questions_end
+  pub has_answers : ReadsSection p 0 (be16 6 p) questions_end m.answers answers_end
+  pub has_authority : ReadsSection p 0 (be16 8 p) answers_end m.authority authority_end
+  pub has_additional : ReadsSection p 1 (be16 10 p) authority_end m.additional used
 
 -- a payload breaks a rule of messages first
 pub data BreaksMessage (p : List ℕ) (why : MsgWhy) : Type 0 where
   -- bytes of its header are missing
   in_header : length p < 12 → why ≡ Short → BreaksMessage p why
   -- a question breaks a rule
-  in_questions : 12 ≤ length p → BreaksAmong (ReadsQuestion p) (λ before here. BreaksQuestion p here why) (word p 4) 12 → BreaksMessage p why
+  in_questions : 12 ≤ length p → BreaksAmong (ReadsQuestion p) (λ before here. BreaksQuestion p here why) (be16 4 p) 12 → BreaksMessage p why
   -- behind the questions an answer breaks a rule
-  in_answers : (qs : List Question) (at : ℕ) → 12 ≤ length p → ReadsEach (ReadsQuestion p) (word p 4) 12 qs at → BreaksSection p 0 (word p 6) at why → BreaksMessage p why
+  in_answers : (qs : List Question) (at : ℕ) → 12 ≤ length p → ReadsEach (ReadsQuestion p) (be16 4 p) 12 qs at → BreaksSection p 0 (be16 6 p) at why → BreaksMessage p why
   -- behind the answers a record of the authority section breaks a rule
-  in_authority : (qs : List Question) (answers : List Rr) (next at : ℕ) → 12 ≤ length p → ReadsEach (ReadsQuestion p) (word p 4) 12 qs next →
-      ReadsSection p 0 (word p 6) next answers at → BreaksSection p 0 (word p 8) at why → BreaksMessage p why
+  in_authority : (qs : List Question) (answers : List Rr) (next at : ℕ) → 12 ≤ length p → ReadsEach (ReadsQuestion p) (be16 4 p) 12 qs next →
+      ReadsSection p 0 (be16 6 p) next answers at → BreaksSection p 0 (be16 8 p) at why → BreaksMessage p why
   -- behind the authority section an additional record breaks a rule
-  in_additional : (qs : List Question) (answers authority : List Rr) (first second at : ℕ) → 12 ≤ length p → ReadsEach (ReadsQuestion p) (word p 4) 12 qs first →
-      ReadsSection p 0 (word p 6) first answers second → ReadsSection p 0 (word p 8) second authority at → BreaksSection p 1 (word p 10) at why → BreaksMessage p why
+  in_additional : (qs : List Question) (answers authority : List Rr) (first second at : ℕ) → 12 ≤ length p → ReadsEach (ReadsQuestion p) (be16 4 p) 12 qs first →
+      ReadsSection p 0 (be16 6 p) first answers second → ReadsSection p 0 (be16 8 p) second authority at → BreaksSection p 1 (be16 10 p) at why → BreaksMessage p why
 
 -- a payload spells a message in so many bytes exactly if the rules say so
 abbrev pub SpelledByRules : Type 0

@@ -5,16 +5,9 @@ ghost use Rattle.cd_message.specs.Messages;
 ghost use Rattle.cd_message.specs.Readings.{Gives};
 
 use crate::message::{MsgWhy, ParseFault, Question};
+use cd_bytes::be16;
 use cd_name::{Name, NameFault, NameWhy, read_name};
 use std::alloc::Global;
-
-/// The big-endian number of the two bytes at an offset.
-pub(crate) fn word(payload: &[u8], at: usize) -> u16
-    requires { at + 2 ≤ length payload.now }
-    ensures { result ≡ Messages.word payload.now at }
-{
-    u16::from(payload[at]) * 256 + u16::from(payload[at + 1])
-}
 
 /// A rule of names, as a rule of messages.
 pub(crate) fn why_of(why: NameWhy) -> MsgWhy
@@ -56,8 +49,8 @@ pub(crate) fn question_at(
     }
     let question = Question {
         name,
-        rtype: word(payload, next),
-        rclass: word(payload, next + 2),
+        rtype: be16(payload, next),
+        rclass: be16(payload, next + 2),
     };
     Ok((question, next + 4))
 }

@@ -5,9 +5,10 @@ ghost use Rattle.cd_message.specs.Messages;
 ghost use Rattle.cd_message.specs.Readings.{Gives, repeat};
 ghost use Rattle.cd_message.specs.Valid.{Valid};
 
-use crate::field::{question_at, word};
+use crate::field::question_at;
 use crate::message::{Message, MsgWhy, ParseFault, Parsed, Question, Rr};
 use crate::record::{opt_allowed_behind, record_at};
+use cd_bytes::be16;
 use cd_name::List;
 use std::alloc::Global;
 
@@ -73,13 +74,13 @@ fn message_of(alloc: Global, payload: &[u8]) -> Result<Parsed, ParseFault>
     if payload.len() < HEADER {
         return Err(ParseFault::Malformed(MsgWhy::Short));
     }
-    let (questions, next) = questions_at(alloc, payload, word(payload, 4), HEADER)?;
-    let (answers, next) = records_at(alloc, payload, word(payload, 6), false, next)?;
-    let (authority, next) = records_at(alloc, payload, word(payload, 8), false, next)?;
-    let (additional, used) = records_at(alloc, payload, word(payload, 10), true, next)?;
+    let (questions, next) = questions_at(alloc, payload, be16(payload, 4), HEADER)?;
+    let (answers, next) = records_at(alloc, payload, be16(payload, 6), false, next)?;
+    let (authority, next) = records_at(alloc, payload, be16(payload, 8), false, next)?;
+    let (additional, used) = records_at(alloc, payload, be16(payload, 10), true, next)?;
     let message = Message {
-        id: word(payload, 0),
-        bits: word(payload, 2),
+        id: be16(payload, 0),
+        bits: be16(payload, 2),
         questions,
         answers,
         authority,

@@ -5,9 +5,10 @@ ghost use Rattle.cd_message.specs.Messages;
 ghost use Rattle.cd_message.specs.Messages.{breaks_opt_rule};
 ghost use Rattle.cd_message.specs.Readings.{Gives};
 
-use crate::field::{name_in, word};
+use crate::field::name_in;
 use crate::message::{MsgWhy, OPT, ParseFault, Rr};
 use crate::rdata::rdata_at;
+use cd_bytes::{be16, be32};
 use cd_name::Name;
 use std::alloc::Global;
 
@@ -33,14 +34,14 @@ fn record_behind_owner(
     if payload.len() - at < 10 {
         return Err(ParseFault::Malformed(MsgWhy::Short));
     }
-    let rtype = word(payload, at);
+    let rtype = be16(payload, at);
     if breaks_opt_rule(opt_allowed, rtype, &owner) {
         return Err(ParseFault::Malformed(MsgWhy::Opt));
     }
-    let rclass = word(payload, at + 2);
-    let ttl = u32::from(word(payload, at + 4)) * 65536 + u32::from(word(payload, at + 6));
+    let rclass = be16(payload, at + 2);
+    let ttl = be32(payload, at + 4);
     let start = at + 10;
-    let size = usize::from(word(payload, at + 8));
+    let size = usize::from(be16(payload, at + 8));
     if payload.len() - start < size {
         return Err(ParseFault::Malformed(MsgWhy::Short));
     }
