@@ -21,3 +21,8 @@ pub mod Fields
 pub mod PieceReadings
 pub mod WrittenRdata
 pub mod WrittenRead
+pub mod InTurn
+pub mod LengthBefore
+pub mod NamesInFront
+pub mod NamesInTurn
+pub mod RdataPieces

@@ -1,11 +1,10 @@
 -- What is read stays where more bytes stand behind the payload.
-use Rattle.std.proofs.Common.{◌≡◌, ℕ, ◌+◌, ◌-◌, ◌≤◌, ◌<◌, List, ◌++◌, length, take, drop, refl, ap, ◌∙◌, sym, arith, length-append}
-use Rattle.std.proofs.lemmas.List.{get_or_append_left, take-append-le, drop-append-le, length-drop}
+use Rattle.std.proofs.Common.{◌≡◌, ℕ, ◌+◌, ◌-◌, ◌≤◌, List, ◌++◌, length, take, drop, ap, ◌∙◌, sym, arith, length-append}
+use Rattle.std.proofs.lemmas.List.{take-append-le, drop-append-le, length-drop}
 use Rattle.cd_name.proofs.Longer.{names_stay}
 use Rattle.cd_message.specs.declared.message.Question.{Question}
 use Rattle.cd_message.specs.declared.message.Rr.{Rr}
 use Rattle.cd_message.specs.declared.message.Message.{Message}
-use Rattle.cd_bytes.specs.Numbers.{be16, be32}
 use Rattle.cd_bytes.proofs.Offsets.{be16-append, be32-append}
 use Rattle.cd_message.specs.Messages.{bytes_at}
 use Rattle.cd_message.specs.MessageLaws.{MessagesStay}

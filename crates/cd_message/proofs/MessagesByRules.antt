@@ -6,7 +6,7 @@ use Rattle.cd_message.specs.declared.message.MsgWhy.TheVariants.{Short}
 use Rattle.cd_message.specs.declared.message.Question.{Question}
 use Rattle.cd_message.specs.declared.message.Message.{Message}
 use Rattle.cd_message.specs.Readings.{repeat}
-use Rattle.cd_bytes.specs.Numbers.{be16, be32}
+use Rattle.cd_bytes.specs.Numbers.{be16}
 use Rattle.cd_message.specs.Messages.{question_at, records_at, message_of}
 use Rattle.cd_message.specs.Rules.{ReadsEach, BreaksAmong, ReadsQuestion, BreaksQuestion, ReadsSection, BreaksSection, ReadsMessage, BreaksMessage, in_header, in_questions, in_answers, in_authority, in_additional, SpelledByRules, BrokenByRules}
 use Rattle.cd_message.proofs.Decides.{Decides, reads_exactly, breaks_exactly}

@@ -9,7 +9,7 @@ use Rattle.cd_name.specs.Names.{IsName, NameAt}
 use Rattle.cd_name.specs.WrittenNames.{Suffix, Piece, Written, name_piece, SuffixesAreRead}
 use Rattle.cd_name.proofs.Longer.{names_stay}
 use Rattle.cd_name.proofs.WrittenRead.{written_names_are_read}
-use Rattle.cd_bytes.specs.Numbers.{be16, be32}
+use Rattle.cd_bytes.specs.Numbers.{be16}
 use Rattle.cd_message.specs.Rules.{ReadsEach, none, one_more}
 use Rattle.cd_message.specs.Written.{bytes_piece, in_turn, each_in_turn, with_length}
 use Rattle.cd_message.proofs.Fields.{BytesAt, first_word_there, word_of_number}

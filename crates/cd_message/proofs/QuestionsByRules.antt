@@ -4,7 +4,7 @@ use Rattle.std.proofs.lemmas.Bool.{cases_lt, le-ltb, lt-ltb}
 use Rattle.cd_message.specs.declared.message.MsgWhy.{MsgWhy}
 use Rattle.cd_message.specs.declared.message.MsgWhy.TheVariants.{Short}
 use Rattle.cd_message.specs.declared.message.Question.{Question}
-use Rattle.cd_bytes.specs.Numbers.{be16, be32}
+use Rattle.cd_bytes.specs.Numbers.{be16}
 use Rattle.cd_message.specs.Messages.{why_of, question_at}
 use Rattle.cd_message.specs.Rules.{ReadsQuestion, BreaksQuestion, question_name, question_fields}
 use Rattle.cd_message.proofs.Decides.{Decides}

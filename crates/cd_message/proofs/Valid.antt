@@ -14,7 +14,7 @@ use Rattle.cd_message.specs.declared.message.Message.{Message}
 use Rattle.cd_message.specs.declared.message.TheConstants.{OPT}
 use Rattle.cd_message.specs.declared.shape.Shape as kind
 use Rattle.cd_message.specs.Readings.{repeat}
-use Rattle.cd_bytes.specs.Numbers.{be16, be32}
+use Rattle.cd_bytes.specs.Numbers.{be16}
 use Rattle.cd_message.specs.Messages.{rdata_of_shape, why_of, name_in, question_at, breaks_opt_rule, record_behind_owner, record_at, opt_allowed_behind, record_step, records_at, message_of, rdata_at}
 use Rattle.cd_message.specs.Shapes.{shape_of, shape, holds_name, holds_number_and_name}
 use Rattle.cd_message.specs.Valid.{FillsShape, KeepsShape, is_opt, ValidRecord, ValidSection, Valid}

@@ -7,3 +7,4 @@ pub mod Rules
 pub mod MessageLaws
 pub mod Written
 pub mod WrittenLaws
+pub mod Putting

@@ -1,5 +1,5 @@
 -- DNS messages (RFC 1035 section 4, RFC 6891 section 6), read from left to right: the first rule that is broken is the answer.
-use Rattle.std.specs.Prelude.{◌≡◌, ℕ, ◌+◌, ◌-◌, ◌*◌, nat_lt, nat_eq, Bool, true, false, ◌&&◌, not, List, [], ◌++◌, length, take, drop, slice_index, if◌then◌else◌, Option, Some, None, Result, Ok, Err}
+use Rattle.std.specs.Prelude.{◌≡◌, ℕ, ◌+◌, ◌-◌, nat_lt, nat_eq, Bool, true, false, ◌&&◌, not, List, [], ◌++◌, length, take, drop, if◌then◌else◌, Option, Some, None, Result, Ok, Err}
 use Rattle.std.specs.List.{concat}
 use Rattle.cd_bytes.specs.Numbers.{be16, be32}
 use Rattle.cd_name.specs.declared.fault.NameWhy.{NameWhy}

@@ -1,5 +1,5 @@
 -- The rules of messages one by one (RFC 1035 section 4, RFC 6891 section 6), as relations. A payload is read from left to right.
-use Rattle.std.specs.Prelude.{◌≡◌, ◌≢◌, ◌↔◌, ℕ, zero, suc, ◌+◌, ◌-◌, ◌*◌, ◌<◌, ◌≤◌, List, [], ◌∷◌, ◌++◌, length, take, true, false, Some, None, Result, Ok, Err, ◌⊎◌}
+use Rattle.std.specs.Prelude.{◌≡◌, ◌≢◌, ◌↔◌, ℕ, zero, suc, ◌+◌, ◌-◌, ◌<◌, ◌≤◌, List, [], ◌∷◌, ◌++◌, length, take, true, false, Some, None, Result, Ok, Err, ◌⊎◌}
 use Rattle.std.specs.List.{All, concat, count_by}
 use Rattle.cd_name.specs.Names.{NameAt, NameBroken, run_is_cut}
 use Rattle.cd_name.specs.declared.fault.NameWhy.{NameWhy}

@@ -1,4 +1,4 @@
-//! DNS messages, read from the bytes of a payload (RFC 1035 section 4, RFC 6891 section 6).
+//! DNS messages, read from the bytes of a payload and written into such bytes (RFC 1035 section 4, RFC 6891 section 6).
 //!
 //! - A *question* is a name, a type and a class. A *record* is an owner, a type, a class, a TTL and RDATA.
 //! - A *section* is the records of one part of a message: answers, authority or additional.
@@ -14,12 +14,17 @@ mod field;
 mod law;
 mod message;
 mod message_reading;
+mod message_writing;
 mod rdata;
+mod rdata_writing;
 mod record;
 mod shape;
 #[cfg(test)]
 mod tests;
 mod weighing;
+mod writing;
+#[cfg(test)]
+mod writing_tests;
 
 pub use law::{
     messages_are_valid, messages_follow_the_rules, messages_lie_within, messages_stay,
@@ -28,5 +33,6 @@ pub use law::{
 };
 pub use message::{Message, MsgWhy, OPT, ParseFault, Parsed, Question, Rr};
 pub use message_reading::parse;
+pub use message_writing::write;
 pub use shape::Shape;
 pub use weighing::weight;
