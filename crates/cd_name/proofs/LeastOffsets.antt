@@ -1,11 +1,11 @@
 -- The least offset at which a suffix stands.
-use Rattle.std.proofs.Common.{◌≡◌, ℕ, min, List, [], ◌∷◌, ◌⊎◌, inl, inr, Option, Some, None, Decides, refl, ap, sym, ◌∙◌, subst, arith}
-use Rattle.std.specs.List.{Contains}
+use Rattle.std.proofs.Common.{◌≡◌, ℕ, ◌<◌, min, false, List, [], ◌∷◌, ◌++◌, length, ◌⊎◌, inl, inr, Option, Some, None, Decides, refl, ap, sym, ◌∙◌, subst, arith}
+use Rattle.std.specs.List.{All, AllByRecursion, Contains}
 use Rattle.std.specs.Option.{option_map_or}
 use Rattle.std.specs.Str.{bytes_eq}
-use Rattle.std.proofs.lemmas.Bool.{cases_lt, cond_both, false≢true}
+use Rattle.std.proofs.lemmas.Bool.{cases_Bool, cases_lt, cond_both, false≢true}
 use Rattle.std.proofs.lemmas.Slice.Eq.{bytes_eq-Decides}
-use Rattle.std.proofs.lemmas.List.Elements.{Contains-append_right, Contains-append_cases, Contains-push_cases}
+use Rattle.std.proofs.lemmas.List.Elements.{All-head, All-tail, Contains-append_right, Contains-append_cases, Contains-push_cases}
 use Rattle.cd_name.specs.WrittenNames.{Suffix, least_offset, StandsAt, IsLeastOffset}
 
 -- what stands is the first or stands behind it
@@ -84,3 +84,34 @@ least_is_least (s ∷ others) name =
     cond_both (bytes_eq name s.name) (Some (option_map_or (min s.offset) (least_offset others name) s.offset)) (least_offset others name) (IsLeast (s ∷ others) name)
     (λ e. least_with_first s others name (least_offset others name) (decides.0 e) (least_is_least others name))
     (λ e. least_without_first s others name (least_offset others name) (λ same. false≢true (sym e ∙ decides.1 same)) (least_is_least others name))
+
+-- a name is none of some suffixes
+abbrev pub IsNoneOf : List ℕ → List Suffix → Type 0
+IsNoneOf name suffixes = AllByRecursion (λ (s : Suffix). bytes_eq name s.name ≡ false) suffixes
+
+-- then it does not stand
+pub least_offset-none : (suffixes : List Suffix) (name : List ℕ) → IsNoneOf name suffixes → least_offset suffixes name ≡ None
+unfolding least_offset
+least_offset-none [] name is_none = refl
+least_offset-none (s ∷ others) name is_none = rw is_none.0 (least_offset-none others name is_none.1)
+
+-- they change nothing for it behind others
+pub least_offset-behind : (standing suffixes : List Suffix) (name : List ℕ) → IsNoneOf name suffixes → least_offset (standing ++ suffixes) name ≡ least_offset standing name
+unfolding least_offset
+least_offset-behind [] suffixes name is_none = least_offset-none suffixes name is_none
+least_offset-behind (s ∷ others) suffixes name is_none = rw (least_offset-behind others suffixes name is_none) refl
+
+-- a name is none of the suffixes that are longer
+pub longer_are_others : (suffixes : List Suffix) (name : List ℕ) → All (λ (s : Suffix). length name < length s.name) suffixes → IsNoneOf name suffixes
+longer_are_others [] name longer = tt
+longer_are_others (s ∷ others) name longer =
+    let P : Suffix → Type 0 = λ s. length name < length s.name in
+    let long : length name < length s.name = All-head P s others longer in
+    let other : bytes_eq name s.name ≡ false =
+    elim (cases_Bool (bytes_eq name s.name)) [
+      | inl same ↦ absurd (omega (arith, ap length ((bytes_eq-Decides name s.name).0 same)))
+      | inr other ↦ other
+    ] in (
+      other,
+      longer_are_others others name (All-tail P s others longer),
+    )

@@ -12,10 +12,11 @@ pub mod Pointers
 pub mod Plain
 pub mod OneAnswer
 pub mod Longer
+pub mod LeastOffsets
+pub mod WrittenSteps
 pub mod Offsets
 pub mod NameProgress
 pub mod NameSizes
 pub mod SizeSteps
-pub mod LeastOffsets
 pub mod WrittenByRule
 pub mod WrittenRead

@@ -1,67 +1,15 @@
 -- A name as it is written, label by label.
-use Rattle.std.proofs.Common.{◌≡◌, ℕ, zero, suc, ◌+◌, ◌-◌, ◌<◌, ◌≤◌, true, List, [], ◌∷◌, ◌++◌, length, take, drop, get_or, Option, Some, None, Result, Ok, Err, OnOk, refl, ap, sym, ◌∙◌, arith, append_assoc, length-append, inl, inr, subst}
-use Rattle.std.specs.List.{All}
-use Rattle.std.specs.Str.{bytes_eq}
-use Rattle.std.proofs.lemmas.Bool.{cases_Bool, cases_lt, cases_eq, eq-eqb, ne_eqb, lt-ltb, le-ltb, false≢true}
-use Rattle.std.proofs.lemmas.List.{append-nil, drop-drop, length-drop, length-take-le, drop_all, take_all}
-use Rattle.std.proofs.lemmas.List.Elements.{All-head, All-tail, All-nil, All-cons, All-append}
-use Rattle.std.proofs.lemmas.Slice.Eq.{bytes_eq-Decides}
+use Rattle.std.proofs.Common.{◌≡◌, ℕ, ◌+◌, ◌<◌, ◌≤◌, true, List, [], ◌∷◌, ◌++◌, length, take, drop, get_or, Some, None, refl, ap, sym, ◌∙◌, arith, append_assoc, length-append, inl, inr, subst}
+use Rattle.std.specs.List.{All, Contains}
+use Rattle.std.proofs.lemmas.Bool.{cases_lt, false≢true}
+use Rattle.std.proofs.lemmas.List.{append-nil, drop-drop, length-drop, length-take-le, drop_all, take-append-drop}
+use Rattle.std.proofs.lemmas.List.Elements.{All-nil, All-append, All-weaker, All-contains_itself}
 use Rattle.cd_name.specs.Names.{are_labels_and_root, IsName}
 use Rattle.cd_name.specs.WrittenNames.{Suffix, Written, Writes, least_offset, pointer_to, suffix_at, only_bytes, name_from, name_piece}
 use Rattle.cd_name.proofs.Bytes.{drop-byte, take-label}
+use Rattle.cd_name.proofs.LeastOffsets.{least_offset-behind, longer_are_others}
+use Rattle.cd_name.proofs.WrittenSteps.{suffix_at_only, written_before, written_before-twice, name_from-root, name_from-standing, name_from-label_of}
 use Rattle.cd_name.proofs.Labels.{labels-label, labels-long, labels-short, labels-early_root, labels-label_at, labels-none_at}
-
--- bytes and suffixes before what is written
-abbrev pub written_before : List ℕ → List Suffix → Written → Written
-written_before bytes suffixes w = record { bytes = bytes ++ w.bytes; suffixes = suffixes ++ w.suffixes }
-
--- behind the rest of a label the name goes on
-pub name_from-inside : (standing : List Suffix) (at inside : ℕ) (bytes : List ℕ) → inside ≤ length bytes →
-    name_from standing at inside bytes ≡ written_before (take inside bytes) [] (name_from standing (at + inside) 0 (drop inside bytes))
-unfolding name_from
-name_from-inside standing at zero bytes h = let e : at + 0 ≡ at = omega arith in rw e refl
-name_from-inside standing at (suc k) [] h = absurd (omega arith)
-name_from-inside standing at (suc k) (b ∷ bytes) h =
-    let e : at + 1 + k ≡ at + suc k = omega arith in
-    ap (λ (w : Written). record { bytes = b ∷ w.bytes; suffixes = w.suffixes }) (name_from-inside standing (at + 1) k bytes (omega arith) ∙ ap (λ a. written_before (take k bytes) [] (name_from standing a 0 (drop k bytes))) e)
-
--- a root
-pub name_from-root : (standing : List Suffix) (at n : ℕ) (bytes : List ℕ) → n ≡ 0 → name_from standing at 0 (n ∷ bytes) ≡ only_bytes (n ∷ bytes)
-unfolding name_from
-name_from-root standing at n bytes h = rw (eq-eqb n 0 h) refl
-
--- a suffix that stands
-pub name_from-standing : (standing : List Suffix) (at n offset : ℕ) (bytes : List ℕ) → 0 < n → least_offset standing (n ∷ bytes) ≡ Some offset →
-    name_from standing at 0 (n ∷ bytes) ≡ only_bytes (pointer_to offset)
-unfolding name_from
-name_from-standing standing at n offset bytes h e = rw (ne_eqb n 0 (λ z. omega arith), e) refl
-
--- a label of a suffix that does not stand
-pub name_from-label : (standing : List Suffix) (at n : ℕ) (bytes : List ℕ) → 0 < n → n ≤ length bytes → least_offset standing (n ∷ bytes) ≡ None →
-    name_from standing at 0 (n ∷ bytes) ≡ written_before (n ∷ take n bytes) (suffix_at (n ∷ bytes) at) (name_from standing (at + (n + 1)) 0 (drop n bytes))
-unfolding name_from
-name_from-label standing at n bytes h k e =
-    let place : at + 1 + n ≡ at + (n + 1) = omega arith in
-    rw (ne_eqb n 0 (λ z. omega arith), e, name_from-inside standing (at + 1) n bytes k, place) refl
-
--- suffixes that are longer than a name are not it
-longer_none : (suffixes : List Suffix) (name : List ℕ) → All (λ (s : Suffix). length name < length s.name) suffixes → least_offset suffixes name ≡ None
-unfolding least_offset
-longer_none [] name longer = refl
-longer_none (s ∷ others) name longer =
-    elim (cases_Bool (bytes_eq name s.name)) [
-      | inl same ↦
-          absurd (let e = ap length ((bytes_eq-Decides name s.name).0 same) in
-          let long = All-head (λ (s : Suffix). length name < length s.name) s others longer in omega arith)
-      | inr other ↦ rw other (longer_none others name (All-tail (λ (s : Suffix). length name < length s.name) s others longer))
-    ]
-
--- so they change nothing for it
-least_offset-longer : (standing suffixes : List Suffix) (name : List ℕ) → All (λ (s : Suffix). length name < length s.name) suffixes →
-    least_offset (standing ++ suffixes) name ≡ least_offset standing name
-unfolding least_offset
-least_offset-longer [] suffixes name longer = longer_none suffixes name longer
-least_offset-longer (s ∷ others) suffixes name longer = rw (least_offset-longer others suffixes name longer) refl
 
 -- How far a name is written behind some bytes in which suffixes stand: up to an offset in it.
 pub record Progress (standing : List Suffix) (front name : List ℕ) (here : ℕ) (message : List ℕ) (known : List Suffix) : Type 0 where
@@ -104,7 +52,7 @@ label_is_there name here n labels lt e h =
 rest_stood : {standing known : List Suffix} {front name message : List ℕ} {here : ℕ} → (g : Progress standing front name here message known) →
     least_offset known (drop here name) ≡ least_offset standing (drop here name)
 rest_stood {standing} {known} {front} {name} {message} {here} g =
-    ap (λ k. least_offset k (drop here name)) g.known_is ∙ least_offset-longer standing g.suffixes (drop here name) g.longer
+    ap (λ k. least_offset k (drop here name)) g.known_is ∙ least_offset-behind standing g.suffixes (drop here name) (longer_are_others g.suffixes (drop here name) g.longer)
 
 -- what is written of the rest of a name without suffixes ends the name
 ends : {standing known : List Suffix} {front name message : List ℕ} {here : ℕ} → (g : Progress standing front name here message known) (new rest : List ℕ) →
@@ -143,12 +91,20 @@ longer_later a b suffixes le longer = λ k d lt. let h = longer k d lt in omega 
 -- a suffix at an offset is longer than a rest behind it
 suffix_is_longer : (b : ℕ) (name : List ℕ) (at : ℕ) → b < length name → All (λ (s : Suffix). b < length s.name) (suffix_at name at)
 suffix_is_longer b name at lt =
-    elim (cases_lt at 16384) [
-      | inl near ↦
-          rw (lt-ltb at 16384 near)
-          (All-cons (λ (s : Suffix). b < length s.name) (record { name = name; offset = at }) [] lt (All-nil (λ (s : Suffix). b < length s.name)))
-      | inr far ↦ rw (le-ltb at 16384 far) (All-nil (λ (s : Suffix). b < length s.name))
-    ]
+    All-weaker (Contains (suffix_at name at)) (λ (s : Suffix). b < length s.name) (λ s h. omega (arith, ap length (suffix_at_only s name at h).0)) (suffix_at name at)
+    (All-contains_itself (suffix_at name at))
+
+-- a name that is written up to a label, and then the label, is written up to the bytes behind it
+label_written : (standing : List Suffix) (at later : ℕ) (whole : Written) (bytes : List ℕ) (suffixes : List Suffix) (rest first l more : List ℕ) →
+    whole ≡ written_before bytes suffixes (name_from standing at 0 rest) → rest ≡ first ++ more → first ≡ length l ∷ l → 0 < length l → least_offset standing rest ≡ None →
+    at + length first ≡ later → whole ≡ written_before (bytes ++ first) (suffixes ++ suffix_at rest at) (name_from standing later 0 more)
+label_written standing at later whole bytes suffixes rest first l more so_far is_rest is_label some none place =
+    let P : Written → Type 0 = λ w. whole ≡ written_before bytes suffixes w in
+    let Q : Written → Type 0 = λ w. whole ≡ w in
+    let R : ℕ → Type 0 = λ k. whole ≡ written_before (bytes ++ first) (suffixes ++ suffix_at rest at) (name_from standing k 0 more) in
+    subst R place
+    (subst Q (written_before-twice bytes first suffixes (suffix_at rest at) (name_from standing (at + length first) 0 more))
+    (subst P (name_from-label_of standing at rest first l more is_rest is_label some none) so_far))
 
 -- one more label
 pub progress_label : {standing known : List Suffix} {front name message : List ℕ} {here : ℕ} → (g : Progress standing front name here message known) (new : List ℕ) (later : List Suffix) (n : ℕ) →
@@ -156,47 +112,30 @@ pub progress_label : {standing known : List Suffix} {front name message : List �
     later ≡ known ++ suffix_at (drop here name) (length message) → Progress standing front name (here + n + 1) new later
 progress_label {standing} {known} {front} {name} {message} {here} g new later n lt e h none is notes =
     let there = label_is_there name here n g.labels lt e h in
-    let rest : List ℕ = drop (here + 1) name in
-    let head : drop here name ≡ n ∷ rest = drop-byte name here n e lt in
-    let size : n ≤ length rest = omega (arith, length-drop (here + 1) name, there.1) in
-    let label : take (n + 1) (drop here name) ≡ n ∷ take n rest = take-label name here n e lt in
+    let rest : List ℕ = drop here name in
+    let more : List ℕ = drop (here + n + 1) name in
+    let first : List ℕ = take (n + 1) rest in
+    let l : List ℕ = take n (drop (here + 1) name) in
     let place : here + (n + 1) ≡ here + n + 1 = omega arith in
-    let behind : drop n rest ≡ drop (here + n + 1) name = (let at : here + 1 + n ≡ here + n + 1 = omega arith in drop-drop n (here + 1) name ∙ ap (λ k. drop k name) at) in
-    let stood : least_offset standing (n ∷ rest) ≡ None = ap (λ t. least_offset standing t) (sym head) ∙ sym (rest_stood g) ∙ none in
-    let grown : length new ≡ length message + (n + 1) =
-    ap length is ∙ length-append message (take (n + 1) (drop here name)) ∙ ap (λ k. length message + k) (length-take-le (n + 1) (drop here name) (omega (arith, length-drop here name, there.1))) in
-    let step : name_from standing (length message) 0 (drop here name) ≡ written_before (take (n + 1) (drop here name)) (suffix_at (drop here name) (length message)) (name_from standing (length new) 0 (drop (here + n + 1) name)) =
-    ap (λ t. name_from standing (length message) 0 t) head ∙ name_from-label standing (length message) n rest h size stood
-    ∙ ap (λ t. written_before t (suffix_at (n ∷ rest) (length message)) (name_from standing (length message + (n + 1)) 0 (drop n rest))) (sym label)
-    ∙ ap (λ t. written_before (take (n + 1) (drop here name)) (suffix_at t (length message)) (name_from standing (length message + (n + 1)) 0 (drop n rest))) (sym head)
-    ∙ ap (λ k. written_before (take (n + 1) (drop here name)) (suffix_at (drop here name) (length message)) (name_from standing k 0 (drop n rest))) (sym grown)
-    ∙ ap (λ t. written_before (take (n + 1) (drop here name)) (suffix_at (drop here name) (length message)) (name_from standing (length new) 0 t)) behind in
-    let last : Written = name_from standing (length new) 0 (drop (here + n + 1) name) in
-    let here_size = length-drop here name in
-    let later_size = length-drop (here + n + 1) name in
+    let is_rest : rest ≡ first ++ more = sym (take-append-drop (n + 1) rest) ∙ ap (λ t. first ++ t) (drop-drop (n + 1) here name ∙ ap (λ k. drop k name) place) in
+    let size : length l ≡ n = length-take-le n (drop (here + 1) name) (omega (arith, length-drop (here + 1) name, there.1)) in
+    let is_label : first ≡ length l ∷ l = take-label name here n e lt ∙ ap (λ k. k ∷ l) (sym size) in
+    let grown : length message + length first ≡ length new = sym (length-append message first) ∙ ap length (sym is) in
+    let stood : least_offset standing rest ≡ None = sym (rest_stood g) ∙ none in
+    let rest_size = length-drop here name in
+    let more_size = length-drop (here + n + 1) name in
     record {
-      bytes = g.bytes ++ take (n + 1) (drop here name);
-      suffixes = g.suffixes ++ suffix_at (drop here name) (length message);
-      message_is = is ∙ ap (λ m. m ++ take (n + 1) (drop here name)) g.message_is ∙ append_assoc front g.bytes (take (n + 1) (drop here name));
-      known_is = notes ∙ ap (λ k. k ++ suffix_at (drop here name) (length message)) g.known_is ∙ append_assoc standing g.suffixes (suffix_at (drop here name) (length message));
-      written = g.written ∙ ap (λ w. written_before g.bytes g.suffixes w) step
-          ∙ ap (λ t. record { bytes = t; suffixes = g.suffixes ++ (suffix_at (drop here name) (length message) ++ last.suffixes) }) (sym (append_assoc g.bytes (take (n + 1) (drop here name)) last.bytes))
-          ∙ ap (λ s. record { bytes = (g.bytes ++ take (n + 1) (drop here name)) ++ last.bytes; suffixes = s }) (sym (append_assoc g.suffixes (suffix_at (drop here name) (length message)) last.suffixes));
+      bytes = g.bytes ++ first;
+      suffixes = g.suffixes ++ suffix_at rest (length message);
+      message_is = is ∙ ap (λ m. m ++ first) g.message_is ∙ append_assoc front g.bytes first;
+      known_is = notes ∙ ap (λ k. k ++ suffix_at rest (length message)) g.known_is ∙ append_assoc standing g.suffixes (suffix_at rest (length message));
+      written = label_written standing (length message) (length new) _ g.bytes g.suffixes rest first l more g.written is_rest is_label (omega arith) stood grown;
       labels = ap (λ k. are_labels_and_root 0 (drop k name)) (sym place) ∙ sym (labels-label_at name here n e h there.0 (omega (arith, there.1))) ∙ g.labels;
-      longer = All-append (λ (s : Suffix). length (drop (here + n + 1) name) < length s.name) g.suffixes (suffix_at (drop here name) (length message))
-          (longer_later (length (drop here name)) (length (drop (here + n + 1) name)) g.suffixes (omega arith) g.longer)
-          (suffix_is_longer (length (drop (here + n + 1) name)) (drop here name) (length message) (omega arith));
+      longer = All-append (λ (s : Suffix). length more < length s.name) g.suffixes (suffix_at rest (length message))
+          (longer_later (length rest) (length more) g.suffixes (omega arith) g.longer)
+          (suffix_is_longer (length more) rest (length message) (omega arith));
     }
 
 -- a name does not end before its root
 pub no_end : {standing known : List Suffix} {front name message : List ℕ} {here : ℕ} → (g : Progress standing front name here message known) → length name ≤ here → ⊥
 no_end {standing} {known} {front} {name} {message} {here} g h = false≢true (sym (labels-none_at name here h) ∙ g.labels)
-
--- what follows of an Ok
-pub on_ok : {A B P Q : Type 0} (r : Result A B) → (P → Q) → OnOk r P → OnOk r Q
-on_ok (Ok x) f h = f h
-on_ok (Err e) f h = tt
-
--- the rest of a name, cut out as a slice
-pub rest_is_slice : (here : ℕ) (name : List ℕ) → take (length name - here) (drop here name) ≡ drop here name
-rest_is_slice here name = take_all (length name - here) (drop here name) (omega (arith, length-drop here name))

@@ -1,10 +1,10 @@
 -- A map from suffixes to offsets, seen as the suffixes that stand.
 use Rattle.std.specs.Prelude.{IfSome, OnOk, OnErr}
-use Rattle.std.proofs.Common.{◌≡◌, ℕ, ◌<◌, Bool, true, false, cond, List, [], ◌∷◌, ◌++◌, length, map, take, Option, Some, None, Result, Ok, Err, refl, sym, ap, ◌∙◌, inl, inr, subst, Vec, Global}
+use Rattle.std.proofs.Common.{◌≡◌, ℕ, ◌<◌, Bool, false, List, [], ◌∷◌, ◌++◌, length, map, take, Option, Some, None, Result, Ok, Err, refl, sym, ap, ◌∙◌, inl, inr, subst, Vec, Global}
 use Rattle.std.specs.List.{All, AllByRecursion, IsDistinct}
 use Rattle.std.specs.Map.{lookup, keys_of}
 use Rattle.std.specs.Str.{bytes_eq}
-use Rattle.std.proofs.lemmas.Bool.{cases_Bool, lt-ltb}
+use Rattle.std.proofs.lemmas.Bool.{cases_Bool}
 use Rattle.std.proofs.lemmas.List.{map-append, length-map, take-map}
 use Rattle.std.proofs.Math.Seq.{take-append_seam}
 use Rattle.std.proofs.lemmas.List.Elements.{All-head, All-tail, All-nil, All-cons, All-append}
@@ -12,6 +12,8 @@ use Rattle.std.proofs.lemmas.Slice.Eq.{bytes_eq-Decides}
 use Rattle.indexmap.specs.IndexMap.{insert_entry}
 use Rattle.indexmap.proofs.MapLemmas.{absent_from_lookup, insert_entry-absent}
 use Rattle.cd_name.specs.WrittenNames.{Suffix, least_offset, suffix_at}
+use Rattle.cd_name.proofs.LeastOffsets.{IsNoneOf, least_offset-none}
+use Rattle.cd_name.proofs.WrittenSteps.{suffix_at-near}
 
 -- an entry of the map
 abbrev pub Entry : Type 0
@@ -25,11 +27,10 @@ suffix_of e = record { name = e.0.items; offset = e.1 }
 abbrev pub same_key : Vec ℕ Global → Vec ℕ Global → Bool
 same_key a b = bytes_eq a.items b.items
 
--- a suffix that is no key stands nowhere
-no_key_none : (es : List Entry) (name : List ℕ) → AllByRecursion (λ k. bytes_eq name k.items ≡ false) (keys_of es) → least_offset (map suffix_of es) name ≡ None
-unfolding least_offset
-no_key_none [] name apart = refl
-no_key_none (e ∷ es) name apart = rw apart.0 (no_key_none es name apart.1)
+-- a name that is no key is none of the suffixes
+no_key_none : (es : List Entry) (name : List ℕ) → AllByRecursion (λ k. bytes_eq name k.items ≡ false) (keys_of es) → IsNoneOf name (map suffix_of es)
+no_key_none [] name apart = tt
+no_key_none (e ∷ es) name apart = (apart.0, no_key_none es name apart.1)
 
 -- what the map has for a suffix is the least offset at which it stands
 pub lookup_least : (es : List Entry) (name : List ℕ) → IsDistinct same_key (keys_of es) → lookup (λ k. bytes_eq name k.items) es ≡ least_offset (map suffix_of es) name
@@ -40,7 +41,7 @@ lookup_least (e ∷ es) name distinct =
       | inl same ↦
           (let is : name ≡ e.0.items = (bytes_eq-Decides name e.0.items).0 same in
           let none : least_offset (map suffix_of es) name ≡ None =
-          no_key_none es name (subst (λ n. AllByRecursion (λ k. bytes_eq n k.items ≡ false) (keys_of es)) (sym is) distinct.0) in
+          least_offset-none (map suffix_of es) name (no_key_none es name (subst (λ n. AllByRecursion (λ k. bytes_eq n k.items ≡ false) (keys_of es)) (sym is) distinct.0)) in
           rw (same, none) refl)
       | inr other ↦ rw other (lookup_least es name distinct.1)
     ]
@@ -82,7 +83,7 @@ pub view_with_entry : (standing : List Suffix) (es new : List Entry) (name : Lis
     least_offset standing name ≡ None → offset < 16384 → new ≡ insert_entry same_key es key offset → map suffix_of new ≡ standing ++ suffix_at name offset
 view_with_entry standing es new name key offset view distinct is none small h =
     let none2 : least_offset (map suffix_of es) name ≡ None = ap (λ s. least_offset s name) view ∙ none in
-    let one : map suffix_of ((key, offset) ∷ []) ≡ suffix_at name offset = rw (lt-ltb offset 16384 small, is) refl in
+    let one : map suffix_of ((key, offset) ∷ []) ≡ suffix_at name offset = ap (λ n. record { name = n; offset = offset } ∷ []) is ∙ sym (suffix_at-near name offset small) in
     ap (λ l. map suffix_of l) (with_entry es new name key offset distinct is none2 h) ∙ map-append suffix_of es ((key, offset) ∷ [])
     ∙ ap (λ l. l ++ map suffix_of ((key, offset) ∷ [])) view ∙ ap (λ l. standing ++ l) one
 

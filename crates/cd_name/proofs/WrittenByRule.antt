@@ -1,44 +1,12 @@
 -- A name is written by the rule.
-use Rattle.std.proofs.Common.{◌≡◌, ◌≢◌, ◌↔◌, ℕ, suc, ◌+◌, ◌<◌, List, [], ◌∷◌, ◌++◌, inl, inr, Option, Some, None, length, get_or, refl, ap, sym, ◌∙◌, subst, arith, append_assoc, length-append, add-zero}
+use Rattle.std.proofs.Common.{◌≡◌, ◌≢◌, ◌↔◌, ℕ, ◌+◌, ◌<◌, List, [], ◌∷◌, ◌++◌, inl, inr, Option, Some, None, length, get_or, refl, ap, sym, ◌∙◌, subst, arith, append_assoc, length-append}
 use Rattle.std.specs.List.{Contains, AllByRecursion}
-use Rattle.std.proofs.lemmas.Bool.{cases_lt, ne_eqb, lt-ltb, le-ltb}
 use Rattle.std.proofs.lemmas.List.Elements.{Contains-append_left, Contains-append_right, Contains-append_cases}
 use Rattle.cd_name.specs.NameLaws.{IsLabel, label_bytes}
-use Rattle.cd_name.specs.WrittenNames.{Suffix, Written, least_offset, pointer_to, suffix_at, only_bytes, label_then, name_from, StandsAt, IsLeastOffset, IsWrittenByRule, NamesAreWrittenByRule}
-use Rattle.cd_name.proofs.LeastOffsets.{IsLeast, least_is_least, first_or_behind, first_stands}
+use Rattle.cd_name.specs.WrittenNames.{Suffix, Written, least_offset, pointer_to, suffix_at, only_bytes, name_from, StandsAt, IsLeastOffset, IsWrittenByRule, NamesAreWrittenByRule}
+use Rattle.cd_name.proofs.LeastOffsets.{IsLeast, least_is_least}
+use Rattle.cd_name.proofs.WrittenSteps.{suffix_at_has, suffix_at_only, written_before, name_from-label, name_from-standing}
 use Rattle.cd_name.proofs.Spelled.{names_are_labels}
-
--- some bytes before what is written
-abbrev bytes_then : List ℕ → Written → Written
-bytes_then bytes w = record { bytes = bytes ++ w.bytes; suffixes = w.suffixes }
-
--- the bytes of a label are written as they are
-within_label : (standing : List Suffix) (at : ℕ) (l more : List ℕ) → name_from standing at (length l) (l ++ more) ≡ bytes_then l (name_from standing (at + length l) 0 more)
-unfolding name_from
-within_label standing at [] more = ap (λ k. name_from standing k 0 more) (sym (add-zero at))
-within_label standing at (b ∷ l) more =
-    let place : at + 1 + length l ≡ at + suc (length l) = omega arith in
-    ap (λ w. bytes_then (b ∷ []) w) (within_label standing (at + 1) l more) ∙ ap (λ k. bytes_then (b ∷ l) (name_from standing k 0 more)) place
-
--- a label is written before what is behind it if no suffix that stands begins with it
-one_label : (standing : List Suffix) (at : ℕ) (l more : List ℕ) → 0 < length l → least_offset standing ((length l ∷ l) ++ more) ≡ None →
-    name_from standing at 0 ((length l ∷ l) ++ more)
-    ≡ record {
-      bytes = (length l ∷ l) ++ (name_from standing (at + length (length l ∷ l)) 0 more).bytes;
-      suffixes = suffix_at ((length l ∷ l) ++ more) at ++ (name_from standing (at + length (length l ∷ l)) 0 more).suffixes;
-    }
-unfolding name_from
-one_label standing at l more some none =
-    let first : List Suffix = suffix_at ((length l ∷ l) ++ more) at in
-    let place : at + 1 + length l ≡ at + length (length l ∷ l) = omega arith in
-    rw (ne_eqb (length l) 0 (λ e. omega arith), none)
-    (ap (λ w. label_then first (length l) w) (within_label standing (at + 1) l more) ∙ ap (λ k. label_then first (length l) (bytes_then l (name_from standing k 0 more))) place)
-
--- a suffix that stands is written as a pointer
-one_pointer : (standing : List Suffix) (at n : ℕ) (bytes : List ℕ) (offset : ℕ) → 0 < n → least_offset standing (n ∷ bytes) ≡ Some offset →
-    name_from standing at 0 (n ∷ bytes) ≡ only_bytes (pointer_to offset)
-unfolding name_from
-one_pointer standing at n bytes offset some is = rw (ne_eqb n 0 (λ e. omega arith), is) refl
 
 -- no label stands behind no labels
 no_label_behind : (front behind : List (List ℕ)) → [] ≡ front ++ behind → behind ≢ [] → ⊥
@@ -91,30 +59,6 @@ longest_with_label standing l ls suffix none longest [] behind offset e some h =
     none offset (subst P (sym e) h)
 longest_with_label standing l ls suffix none longest (f ∷ fs) behind offset e some h = longest fs behind offset (cc) some h
 
--- the suffix at an offset comes to stand there, if a pointer can lead there
-suffix_at_has : (s : Suffix) (name : List ℕ) (at : ℕ) → s.name ≡ name → s.offset ≡ at → s.offset < 16384 → Contains (suffix_at name at) s
-suffix_at_has s name at n o near =
-    let own : Contains (suffix_at s.name s.offset) s = rw (lt-ltb s.offset 16384 near) (first_stands s []) in
-    let P : List ℕ → Type 0 = λ t. Contains (suffix_at t at) s in
-    let Q : ℕ → Type 0 = λ k. Contains (suffix_at s.name k) s in
-    subst P n (subst Q o own)
-
--- no other does
-suffix_at_only : (s : Suffix) (name : List ℕ) (at : ℕ) → Contains (suffix_at name at) s → (s.name ≡ name) × (s.offset ≡ at) × (s.offset < 16384)
-suffix_at_only s name at h =
-    elim (cases_lt at 16384) [
-      | inl near ↦
-          let here : Suffix = record { name = name; offset = at } in
-          let h2 : Contains (here ∷ []) s = rw (lt-ltb at 16384 near) at h in
-          elim (first_or_behind here [] s h2) [
-            | inl e ↦ (sym (ap (λ (x : Suffix). x.name) e), sym (ap (λ (x : Suffix). x.offset) e), omega (arith, ap (λ (x : Suffix). x.offset) e))
-            | inr none ↦ absurd (omega (arith, none.1))
-          ]
-      | inr far ↦
-          let h2 : Contains [] s = rw (le-ltb at 16384 far) at h in
-          absurd (omega (arith, h2.1))
-    ]
-
 -- what stands with one label more comes to stand there
 comes_with_label : (at : ℕ) (l : List ℕ) (ls : List (List ℕ)) (suffix : List ℕ) (others : List Suffix) (s : Suffix) →
     (Contains others s → ComesToStand (at + length (length l ∷ l)) ls suffix s) → Contains (suffix_at (label_bytes (l ∷ ls) ++ suffix) at ++ others) s →
@@ -146,8 +90,7 @@ has_with_label at l ls suffix others s deeper (f ∷ fs) behind e some n o near 
 -- a label before what is written by the rule is written by the rule
 label_by_rule : (standing : List Suffix) (at : ℕ) (l more : List ℕ) (w : Written) → IsLabel l → IsLeast standing ((length l ∷ l) ++ more) None →
     IsWrittenByRule standing (at + length (length l ∷ l)) more w →
-    IsWrittenByRule standing at ((length l ∷ l) ++ more)
-    (record { bytes = (length l ∷ l) ++ w.bytes; suffixes = suffix_at ((length l ∷ l) ++ more) at ++ w.suffixes })
+    IsWrittenByRule standing at ((length l ∷ l) ++ more) (written_before (length l ∷ l) (suffix_at ((length l ∷ l) ++ more) at) w)
 label_by_rule standing at l more w is none r =
     let first : List ℕ = length l ∷ l in
     let whole : first ++ more ≡ label_bytes (l ∷ r.labels) ++ r.suffix = ap (λ t. first ++ t) r.is_all ∙ sym (append_assoc first (label_bytes r.labels) r.suffix) in
@@ -176,10 +119,10 @@ label_or_pointer : (standing : List Suffix) (at : ℕ) (l more : List ℕ) (foun
     IsWrittenByRule standing at ((length l ∷ l) ++ more) (name_from standing at 0 ((length l ∷ l) ++ more))
 label_or_pointer standing at l more None e least is r =
     let P : Written → Type 0 = λ w. IsWrittenByRule standing at ((length l ∷ l) ++ more) w in
-    subst P (sym (one_label standing at l more is.0 e)) (label_by_rule standing at l more _ is least r)
+    subst P (sym (name_from-label standing at l more is.0 e)) (label_by_rule standing at l more _ is least r)
 label_or_pointer standing at l more (Some offset) e least is r =
     let P : Written → Type 0 = λ w. IsWrittenByRule standing at ((length l ∷ l) ++ more) w in
-    subst P (sym (one_pointer standing at (length l) (l ++ more) offset is.0 e)) (pointer_by_rule standing at (length l) (l ++ more) offset is.0 least)
+    subst P (sym (name_from-standing standing at (length l) offset (l ++ more) is.0 e)) (pointer_by_rule standing at (length l) (l ++ more) offset is.0 least)
 
 -- labels and the root are written by the rule
 by_rule : (labels : List (List ℕ)) (standing : List Suffix) (at : ℕ) → AllByRecursion IsLabel labels →

@@ -1,5 +1,5 @@
 -- Names as they are written into a message (RFC 1035 4.1.4): a name that ends as one before it did ends in a pointer to that.
-use Rattle.std.specs.Prelude.{◌≡◌, ◌≢◌, ◌↔◌, ℕ, zero, suc, ◌+◌, ◌/◌, ◌%◌, ◌<◌, ◌≤◌, Bool, nat_lt, nat_eq, min, List, [], ◌∷◌, ◌++◌, length, if◌then◌else◌, Option, Some, None, Contains, ◌⊎◌}
+use Rattle.std.specs.Prelude.{◌≡◌, ◌≢◌, ◌↔◌, ℕ, zero, suc, ◌+◌, ◌/◌, ◌%◌, ◌<◌, ◌≤◌, nat_lt, nat_eq, min, List, [], ◌∷◌, ◌++◌, length, if◌then◌else◌, Option, Some, None, Contains, ◌⊎◌}
 use Rattle.std.specs.List.{All, AllByRecursion}
 use Rattle.std.specs.Option.{option_map_or}
 use Rattle.std.specs.Str.{bytes_eq}

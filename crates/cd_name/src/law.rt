@@ -1,7 +1,6 @@
 //! Laws over the definitions, each the contract of a function that does nothing.
 
 ghost use Rattle.cd_name.specs.NameLaws.{NamesAreLabels, PlainNamesAreRead, NamesAreNames, NamesStay, BrokenNamesStay, LabelsAreRead, PointersAreFollowed};
-ghost use Rattle.cd_name.specs.NameLaws.{NamesAreLabels, PlainNamesAreRead, NamesAreNames, NamesStay, LabelsAreRead, PointersAreFollowed};
 ghost use Rattle.cd_name.specs.NameSizes.{NameSizesAreExact};
 ghost use Rattle.cd_name.specs.Rules.{ReadByRules, BrokenByRules, RulesGiveOne};
 ghost use Rattle.cd_name.specs.WrittenNames.{NamesAreWrittenByRule, WrittenNamesAreRead};

@@ -1,5 +1,4 @@
-use Rattle.std.proofs.Common.{◌≡◌, refl, sym, ap, ◌∙◌, arith, subst}
-use Rattle.std.specs.Prelude.{OnOk}
+use Rattle.std.proofs.Common.{ap, ◌∙◌, arith}
 use Rattle.cd_name.specs.WrittenNames.{least_offset}
 use Rattle.cd_name.proofs.Offsets.{still_near, view_with_entry}
 use Rattle.cd_name.proofs.name_writer.NameWriter.note.Goals as goal

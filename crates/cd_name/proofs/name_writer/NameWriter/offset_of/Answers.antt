@@ -1,4 +1,4 @@
-use Rattle.std.proofs.Common.{◌≡◌, Option, sym, ap, ◌∙◌}
+use Rattle.std.proofs.Common.{sym, ap, ◌∙◌}
 use Rattle.cd_name.specs.WrittenNames.{least_offset}
 use Rattle.cd_name.proofs.Offsets.{lookup_least, lookup_near, lookup_if_near}
 use Rattle.cd_name.proofs.name_writer.NameWriter.offset_of.Goals as goal

@@ -1,4 +1,4 @@
-use Rattle.std.proofs.Common.{◌≡◌, sym, ap, ◌∙◌, map, take}
+use Rattle.std.proofs.Common.{ap, ◌∙◌, map, take}
 use Rattle.cd_name.proofs.Offsets.{suffix_of, view_of_front}
 use Rattle.cd_name.proofs.name_writer.NameWriter.put_slice.Goals as goal
 
