@@ -22,6 +22,8 @@ mod name_reading;
 #[cfg(test)]
 mod name_tests;
 mod name_writer;
+#[cfg(test)]
+mod name_writer_tests;
 mod piece;
 #[cfg(test)]
 mod tests;
