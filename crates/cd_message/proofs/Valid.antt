@@ -1,5 +1,5 @@
 -- A message that is read is valid.
-use Rattle.std.proofs.Common.{◌≡◌, ℕ, zero, suc, ◌+◌, ◌-◌, ◌*◌, ◌≤◌, Bool, List, [], ◌∷◌, ◌++◌, length, drop, Ok, Option, None, Some, refl, ap, length-append, arith, true, false, subst, inl, inr, nat_eq, nat_lt, cond, ◌&&◌, not, if◌then◌else◌, Fits, w8, get_or, ◌∙◌}
+use Rattle.std.proofs.Common.{◌≡◌, ℕ, zero, suc, ◌+◌, ◌-◌, ◌*◌, ◌≤◌, Bool, List, [], ◌∷◌, ◌++◌, length, drop, Ok, Option, None, Some, refl, ap, length-append, arith, true, false, subst, inl, inr, nat_eq, nat_lt, cond, ◌&&◌, ◌||◌, not, if◌then◌else◌, Fits, w8, get_or, ◌∙◌}
 use Rattle.std.specs.List.{All, concat, count_by}
 use Rattle.std.proofs.lemmas.List.{length-take}
 use Rattle.std.proofs.lemmas.List.Elements.{All-nil, All-cons, All-head, All-tail}
@@ -16,7 +16,7 @@ use Rattle.cd_message.specs.declared.shape.Shape as kind
 use Rattle.cd_message.specs.Readings.{repeat}
 use Rattle.cd_bytes.specs.Numbers.{be16}
 use Rattle.cd_message.specs.Messages.{rdata_of_shape, why_of, name_in, question_at, breaks_opt_rule, record_behind_owner, record_at, opt_allowed_behind, record_step, records_at, message_of, rdata_at}
-use Rattle.cd_message.specs.Shapes.{shape_of, shape, holds_name, holds_number_and_name}
+use Rattle.cd_message.specs.Shapes.{shape_of, shape, holds_name}
 use Rattle.cd_message.specs.Valid.{FillsShape, KeepsShape, is_opt, ValidRecord, ValidSection, Valid}
 use Rattle.cd_message.specs.MessageLaws.{AreBytes, MessagesAreValid}
 use Rattle.cd_message.proofs.Binds.{bind_ok, ok_same, name_reading_ok, if_err_else}
@@ -55,7 +55,7 @@ shapes_are_small t =
     (choice_is_small (nat_eq t 14) (shape 0 2 0 true) _ (shape_is_small 0 2 0 true (omega arith) (omega arith) (omega arith))
     (choice_is_small (nat_eq t 15) (shape 2 1 0 true) _ (shape_is_small 2 1 0 true (omega arith) (omega arith) (omega arith))
     (choice_is_small (nat_eq t 17) (shape 0 2 0 false) _ (shape_is_small 0 2 0 false (omega arith) (omega arith) (omega arith))
-    (choice_is_small (holds_number_and_name t) (shape 2 1 0 false) _ (shape_is_small 2 1 0 false (omega arith) (omega arith) (omega arith))
+    (choice_is_small (nat_eq t 18 || nat_eq t 21) (shape 2 1 0 false) _ (shape_is_small 2 1 0 false (omega arith) (omega arith) (omega arith))
     (choice_is_small (nat_eq t 26) (shape 2 2 0 false) _ (shape_is_small 2 2 0 false (omega arith) (omega arith) (omega arith))
     (choice_is_small (nat_eq t 33) (shape 6 1 0 false) None (shape_is_small 6 1 0 false (omega arith) (omega arith) (omega arith)) tt)))))))
 

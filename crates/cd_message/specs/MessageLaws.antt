@@ -22,7 +22,8 @@ MessagesLieWithin = (payload : List ℕ) (message : Message) (used : ℕ) → Sp
 abbrev pub MessagesStay : Type 0
 MessagesStay = (payload more : List ℕ) (message : Message) (used : ℕ) → Spells payload message used → Spells (payload ++ more) message used
 
--- a message that is read from at most 65,535 bytes weighs at most 3,400,000, however its names are compressed
+-- A message that is read from at most 65,535 bytes weighs at most 3,400,000, however its names are compressed: a record of two names in RDATA, all
+-- of them pointers, weighs 829 in 16 bytes, and nothing weighs more for its bytes.
 abbrev pub ReadMessagesAreLight : Type 0
 ReadMessagesAreLight = (payload : List ℕ) (message : Message) (used : ℕ) → Spells payload message used → length payload ≤ 65535 → weight_of message ≤ 3400000
 

@@ -76,7 +76,7 @@ rdata_of_shape (Some s) payload at end =
 unfoldable pub rdata_at : ℕ → List ℕ → ℕ → ℕ → Result (List ℕ) MsgWhy
 rdata_at rtype payload at end = if nat_eq at end then Ok [] else rdata_of_shape (shape_of rtype) payload at end
 
--- An OPT record stands where one is allowed, and its owner is the root, which alone has one byte (RFC 6891 6.1.1).
+-- An OPT record stands where one is allowed, and its owner is the root, which alone has one byte (RFC 6891 6.1.1, 6.1.2).
 abbrev pub breaks_opt_rule : Bool → ℕ → List ℕ → Bool
 breaks_opt_rule opt_allowed rtype owner = nat_eq rtype OPT && (if opt_allowed then nat_lt 1 (length owner) else true)
 

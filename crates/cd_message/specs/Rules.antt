@@ -51,7 +51,7 @@ RdataNameAt p end at name next = NameAt p at name next × (next ≤ end)
 
 -- a name of RDATA that ends at an offset breaks a rule
 pub data BreaksRdataName (p : List ℕ) (end at : ℕ) (why : MsgWhy) : Type 0 where
-  -- its first run goes on behind the RDATA: before the end it breaks another rule, or it does not fill the RDATA
+  -- its first run goes on behind the RDATA: its labels before the end are too long, or it does not fill the RDATA
   past_end : (broken : NameWhy) → run_is_cut (take end p) at ≡ true → NameBroken (take end p) at broken → why ≡ rdata_why_of broken → BreaksRdataName p end at why
   -- its first run ends within the RDATA, and it breaks a rule of names
   within_end : (broken : NameWhy) → run_is_cut (take end p) at ≡ false → NameBroken p at broken → why ≡ why_of broken → BreaksRdataName p end at why
@@ -87,7 +87,7 @@ pub record ReadsRecord (p : List ℕ) (at : ℕ) (r : Rr) (next : ℕ) : Type 0 
   pub is_there : next ≤ length p
   pub has_rdata : ReadsRdata p r.rtype (owner_end + 10) next r.rdata
 
--- The rule of OPT records, in a section that may hold so many of them (RFC 6891 6.1.1): no more stand in it, and each is the root's.
+-- The rule of OPT records, in a section that may hold so many of them (RFC 6891 6.1.1, 6.1.2): no more stand in it, and each is the root's.
 pub record KeepsOptRule (opts : ℕ) (records : List Rr) : Type 0 where
   pub few : count_by is_opt records ≤ opts
   pub of_root : All (λ r. r.rtype ≡ OPT → r.owner ≡ 0 ∷ []) records
@@ -97,7 +97,7 @@ pub record ReadsSection (p : List ℕ) (opts count at : ℕ) (records : List Rr)
   pub are_read : ReadsEach (ReadsRecord p) count at records end
   pub opt_rule : KeepsOptRule opts records
 
--- behind some records of its section, an OPT record or the root's owner breaks the rule of OPT records
+-- behind some records of its section, a record of this type and owner breaks the rule of OPT records
 abbrev pub BreaksOptRule : ℕ → List Rr → ℕ → List ℕ → Type 0
 BreaksOptRule opts before rtype owner = (rtype ≡ OPT) × ((opts ≤ count_by is_opt before) ⊎ (owner ≢ 0 ∷ []))
 

@@ -10,11 +10,7 @@ shape before names behind compressed = Some (record { before = before; names = n
 abbrev pub holds_name : ℕ → Bool
 holds_name t = nat_eq t 2 || nat_eq t 3 || nat_eq t 4 || nat_eq t 5 || nat_eq t 7 || nat_eq t 8 || nat_eq t 9 || nat_eq t 12
 
--- AFSDB and RT hold a number of two bytes and a name (RFC 1183 1, 3.3)
-abbrev pub holds_number_and_name : ℕ → Bool
-holds_number_and_name t = nat_eq t 18 || nat_eq t 21
-
--- The shape of a type's RDATA: SOA is 6, MINFO 14 and MX 15 (RFC 1035 3.3), RP is 17 (RFC 1183 2.2), PX is 26 (RFC 2163 4), SRV is 33 (RFC 2782).
+-- The shape of a type's RDATA: SOA is 6, MINFO 14 and MX 15 (RFC 1035 3.3), RP is 17 (RFC 1183 2.2), AFSDB 18 and RT 21 (RFC 1183 1, 3.3), PX is 26 (RFC 2163 4), SRV is 33 (RFC 2782).
 -- Names are compressed only in the types of RFC 1035 (RFC 3597 4).
 unfoldable pub shape_of : ℕ → Option Shape
 shape_of t =
@@ -23,7 +19,7 @@ shape_of t =
     else (if nat_eq t 14 then shape 0 2 0 true
     else (if nat_eq t 15 then shape 2 1 0 true
     else (if nat_eq t 17 then shape 0 2 0 false
-    else (if holds_number_and_name t then shape 2 1 0 false
+    else (if nat_eq t 18 || nat_eq t 21 then shape 2 1 0 false
     else (if nat_eq t 26 then shape 2 2 0 false
     else (if nat_eq t 33 then shape 6 1 0 false
     else None)))))))

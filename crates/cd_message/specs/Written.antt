@@ -60,7 +60,7 @@ compressed_parts (Some s) rdata = if s.compressed then parts_of_shape s rdata el
 abbrev pub parts_piece : RdataParts → Piece
 parts_piece parts = in_turn (bytes_piece parts.before) (in_turn (each_in_turn name_piece parts.names) (bytes_piece parts.behind))
 
--- RDATA of a type: with compressed names, if it fills a shape of such, and else as it is
+-- RDATA of a type: with compressed names, if it fills a shape whose names are compressed, and else as it is
 unfoldable pub rdata_piece : ℕ → List ℕ → Piece
 rdata_piece rtype rdata = option_map_or parts_piece (compressed_parts (shape_of rtype) rdata) (bytes_piece rdata)
 
@@ -94,6 +94,6 @@ abbrev pub has_small_sections : Message → Bool
 has_small_sections m =
     nat_le (length m.questions) 65535 && nat_le (length m.answers) 65535 && nat_le (length m.authority) 65535 && nat_le (length m.additional) 65535
 
--- a message in at most 65,535 bytes, if it has such a spelling
+-- the bytes of a message; none where a section has more than 65,535 entries, or they are more than 65,535
 abbrev pub written_if_fits : Message → Option (List ℕ)
 written_if_fits m = if has_small_sections m && nat_le (length (written_message m)) 65535 then Some (written_message m) else None

@@ -17,7 +17,7 @@ QuestionNumbersFit q = (q.rtype < 2 ^ 16) × (q.rclass < 2 ^ 16)
 abbrev pub RecordNumbersFit : Rr → Type 0
 RecordNumbersFit r = (r.rtype < 2 ^ 16) × (r.rclass < 2 ^ 16) × (r.ttl < 2 ^ 32)
 
--- the numbers of a message have as many bytes as they have fields
+-- each number of a message fits the bytes of its field
 pub record NumbersFit (m : Message) : Type 0 where
   pub id : m.id < 2 ^ 16
   pub bits : m.bits < 2 ^ 16
@@ -30,7 +30,7 @@ pub record NumbersFit (m : Message) : Type 0 where
 abbrev pub WrittenMessagesAreRead : Type 0
 WrittenMessagesAreRead = (m : Message) → NumbersFit m → Valid m → length (written_message m) ≤ 65535 → Spells (written_message m) m (length (written_message m))
 
--- RDATA has parts exactly if it fills its shape, and they are those that fill it
+-- RDATA has parts of a shape exactly if it fills that, and they are those that fill it
 abbrev pub PartsFillShapes : Type 0
 PartsFillShapes = (s : kind.Shape) (rdata : List ℕ) (parts : RdataParts) → (parts_of_shape s rdata ≡ Some parts) ↔
     ((fills : FillsShape s rdata) × (fills.before ≡ parts.before) × (fills.names ≡ parts.names) × (fills.behind ≡ parts.behind))

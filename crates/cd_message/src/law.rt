@@ -43,7 +43,7 @@ pub fn rules_give_one()
     ensures { RulesGiveOne }
 {}
 
-/// RDATA has parts exactly if it fills its shape, and they are those that fill it.
+/// RDATA has parts of a shape exactly if it fills that, and they are those that fill it.
 pub fn parts_fill_shapes()
     ensures { PartsFillShapes }
 {}

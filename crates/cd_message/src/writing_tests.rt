@@ -117,7 +117,7 @@ fn message_with_rdata(alloc: Global, rtype: u16, rdata: &[u8]) -> Result<Vec<u8>
     )?;
     payload.extend_from_slice(&rtype.to_be_bytes())?;
     payload.extend_from_slice(b"\x00\x01\x00\x00\x00\x00".as_slice())?;
-    payload.extend_from_slice(&(rdata.len() as u16).to_be_bytes())?;
+    payload.extend_from_slice(&((rdata.len() % 65536) as u16).to_be_bytes())?;
     payload.extend_from_slice(rdata)?;
     Ok(payload)
 }
@@ -189,14 +189,14 @@ fn rdata_out_of_shape_is_written_as_it_is(rt: HostRuntime) -> Result<(), AllocEr
 /// A message of a record with so many bytes of RDATA and of records with these owners and no RDATA.
 fn message_of_owners(
     alloc: Global,
-    filling: usize,
+    filling: u16,
     owners: [&[u8]; 3],
 ) -> Result<Vec<u8>, AllocError> {
     let mut payload = Vec::from_slice(
         alloc,
         b"\x00\x07\x81\x80\x00\x00\x00\x04\x00\x00\x00\x00\x00\xff\x00\x00\x01\x00\x00\x00\x00".as_slice(),
     )?;
-    payload.extend_from_slice(&(filling as u16).to_be_bytes())?;
+    payload.extend_from_slice(&filling.to_be_bytes())?;
     for _ in 0..filling {
         payload.push(0)?;
     }

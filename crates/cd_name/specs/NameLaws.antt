@@ -43,7 +43,7 @@ LabelsAreRead = (labels : List (List ℕ)) (front more name : List ℕ) (start n
     ReadsName (front ++ (label_bytes labels ++ more)) start (length front + length (label_bytes labels)) name next →
     ReadsName (front ++ (label_bytes labels ++ more)) start (length front) (label_bytes labels ++ name) next
 
--- labels and behind them a pointer to an offset before them are read as the labels and the name at that offset, if both have at most 255 bytes
+-- labels and behind them a pointer to an offset before them are read as the labels and the name at that offset, if they have at most 255 bytes together
 abbrev pub PointersAreFollowed : Type 0
 PointersAreFollowed = (labels : List (List ℕ)) (front more name : List ℕ) (high low target next : ℕ) → AllByRecursion IsLabel labels →
     192 ≤ high → target ≡ (high - 192) * 256 + low → target < length front →

@@ -3,7 +3,7 @@ use Rattle.std.specs.Prelude.{◌≡◌, ◌↔◌, ℕ, zero, suc, ◌≤◌, n
 use Rattle.std.specs.Option.{option_map, option_and_then}
 use Rattle.cd_name.specs.Names.{IsName}
 
--- how many bytes of a name without pointers are at the front of some bytes, which begin with so many bytes of a label
+-- how many bytes there are up to the first root, where so many bytes of a label that was begun come first
 unfoldable pub size_from : ℕ → List ℕ → Option ℕ
 size_from inside [] = None
 size_from (suc inside) (b ∷ bytes) = option_map suc (size_from inside bytes)

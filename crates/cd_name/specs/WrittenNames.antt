@@ -95,7 +95,7 @@ NamesAreWrittenByRule = (standing : List Suffix) (at : ℕ) (name : List ℕ) �
 abbrev pub SuffixesAreRead : List ℕ → List Suffix → Type 0
 SuffixesAreRead bytes standing = All (λ s. (s.offset < 16384) × ((next : ℕ) × NameAt bytes s.offset s.name next)) standing
 
--- a name that is written is read as itself, whatever stands behind it, and so are the suffixes that come to stand
+-- a name that is written is read as itself, and so are the suffixes that come to stand
 abbrev pub WrittenNamesAreRead : Type 0
 WrittenNamesAreRead = (bytes : List ℕ) (standing : List Suffix) (name : List ℕ) (new_bytes : List ℕ) (new_standing : List Suffix) → SuffixesAreRead bytes standing → IsName name →
     Writes (name_piece name) bytes standing new_bytes new_standing → NameAt new_bytes (length bytes) name (length new_bytes) × SuffixesAreRead new_bytes new_standing
