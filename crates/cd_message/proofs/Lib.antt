@@ -17,6 +17,7 @@ pub mod Within
 pub mod Weights
 pub mod Longer
 pub mod RdataParts
+pub mod ValidIsProp
 pub mod Fields
 pub mod PieceReadings
 pub mod WrittenRdata
