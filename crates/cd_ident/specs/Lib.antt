@@ -1,0 +1,6 @@
+pub mod Datagrams
+pub mod Headers
+pub mod Bodies
+pub mod Identifiers
+pub mod Events
+pub mod Keys
