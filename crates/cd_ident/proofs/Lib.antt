@@ -1,0 +1,2 @@
+pub mod ExactIds
+pub mod Exchanges

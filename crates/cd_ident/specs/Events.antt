@@ -59,6 +59,10 @@ malformed_parts rules d =
 abbrev pub message_ends : Datagram → dns.Message → Ends
 message_ends d m = ends_of (nat_eq (qr_of m.bits) 0) d
 
+-- the identifiers of a message
+abbrev pub message_ids : Datagram → dns.Message → Ids
+message_ids d m = record { primary = primary_of (message_ends d m) m.id (opcode_of m.bits); secondary = secondary_of m.questions }
+
 -- a message whose opcode is not listed
 abbrev pub discarded_parts : Datagram → dns.Message → ℕ → EventParts
 discarded_parts d m used = parts_of_payload d (message_ends d m) Discarded (nat_lt used (length d.payload)) (bare_ids (message_ends d m)) LEAST_WEIGHT Nothing
@@ -66,9 +70,7 @@ discarded_parts d m used = parts_of_payload d (message_ends d m) Discarded (nat_
 -- a message whose opcode is listed
 abbrev pub kept_parts : Datagram → dns.Message → ℕ → EventParts
 kept_parts d m used =
-    let ends : Ends = message_ends d m in
-    let ids : Ids = record { primary = primary_of ends m.id (opcode_of m.bits); secondary = secondary_of m.questions } in
-    parts_of_payload d ends (if nat_eq (qr_of m.bits) 0 then Query else Response) (nat_lt used (length d.payload)) ids (weight_of m) (Message m)
+    parts_of_payload d (message_ends d m) (if nat_eq (qr_of m.bits) 0 then Query else Response) (nat_lt used (length d.payload)) (message_ids d m) (weight_of m) (Message m)
 
 -- a message that takes so many bytes of the payload
 abbrev pub message_parts : EventRules → Datagram → dns.Message → ℕ → EventParts

@@ -15,11 +15,15 @@ ends_of from_client d =
     if from_client then record { client = d.src; server = d.dst; client_port = d.sport; server_port = d.dport }
     else record { client = d.dst; server = d.src; client_port = d.dport; server_port = d.sport }
 
--- The primary, 41 bytes: 1 for IPv6 or 0 for IPv4, the client's address, the server's, the client's port, the server's, 0 for UDP, the ID
--- and the opcode (RFC 8618 10.2.1).
+-- the version of IP as a byte: 1 for IPv6, 0 for IPv4
+abbrev pub version_byte : Bool → ℕ
+version_byte v6 = if v6 then 1 else 0
+
+-- The primary, 41 bytes: the version of IP, the client's address, the server's, the client's port, the server's, 0 for UDP, the ID and the
+-- opcode (RFC 8618 10.2.1).
 abbrev pub primary_of : Ends → ℕ → ℕ → List ℕ
 primary_of ends id opcode =
-    (if ends.client.v6 then 1 else 0) ∷ ends.client.octets ++ ends.server.octets ++ to_be_bytes w16 ends.client_port ++ to_be_bytes w16 ends.server_port
+    version_byte ends.client.v6 ∷ ends.client.octets ++ ends.server.octets ++ to_be_bytes w16 ends.client_port ++ to_be_bytes w16 ends.server_port
     ++ 0 ∷ to_be_bytes w16 id ++ opcode ∷ []
 
 -- The secondary: the name of the first question in lower case, its type and its class (RFC 8618 10.2.2).

@@ -4,3 +4,4 @@ pub mod Bodies
 pub mod Identifiers
 pub mod Events
 pub mod Keys
+pub mod IdentifierLaws

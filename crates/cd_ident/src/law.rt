@@ -1,8 +1,24 @@
-//! A law of identifiers, the contract of a function that does nothing.
+//! Laws of identifiers, each the contract of a function that does nothing.
 
+ghost use Rattle.cd_ident.specs.IdentifierLaws.{PrimariesAreExact, SecondariesAreExact, ResponsesHaveThePrimary};
 ghost use Rattle.cd_ident.specs.Keys.{CompatibleIdsAreTheKeys};
 
 /// The identifiers of two events are compatible exactly as the pairing asks of their keys.
 pub fn compatible_ids_are_the_keys()
     ensures { CompatibleIdsAreTheKeys }
+{}
+
+/// Primaries are equal exactly if the version of IP, the addresses, the ports, the ID and the opcode are.
+pub fn primaries_are_exact()
+    ensures { PrimariesAreExact }
+{}
+
+/// Secondaries of two questions are equal exactly if the types and classes are, and the names but for case.
+pub fn secondaries_are_exact()
+    ensures { SecondariesAreExact }
+{}
+
+/// A response that goes back where a query came from, with its ID and opcode, has its primary.
+pub fn responses_have_the_primary()
+    ensures { ResponsesHaveThePrimary }
 {}
