@@ -49,13 +49,14 @@ pub struct Event {
     pub server_port: u16,
     /// The time to live of IPv4 or the hop limit of IPv6.
     pub hop: u8,
-    /// The bytes of the payload.
+    /// How many bytes its payload has.
     pub size: u32,
     /// Whether bytes follow the message. Never for a payload that is no message.
     pub trailing: bool,
     /// What tells which events belong together.
     pub ids: Ids,
-    /// What it counts for where events are held back: the weight of its message, or 256 and the bytes of a payload that is none.
+    /// What it counts for where events are held back: the weight of its message, 256 and its payload where that is none, or 256 where
+    /// nothing is kept.
     pub weight: u64,
     /// What is kept of the payload.
     pub body: Body,
