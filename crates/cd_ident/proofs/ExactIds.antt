@@ -6,8 +6,7 @@ use Rattle.std.proofs.lemmas.Option.{same_Some}
 use Rattle.std.proofs.Math.Seq.{drop-append_seam, take-append_seam}
 use Rattle.cd_name.specs.Names.{lower_case}
 use Rattle.cd_message.specs.declared.message.Question.{Question}
-use Rattle.cd_ident.specs.declared.ends.Ends.{Ends}
-use Rattle.cd_ident.specs.Identifiers.{version_byte, primary_of}
+use Rattle.cd_ident.specs.Identifiers.{Ends, version_byte, primary_of}
 use Rattle.cd_ident.specs.IdentifierLaws.{EndsFit, AreSameEnds, PrimariesAreExact, SecondariesAreExact}
 
 -- two lists whose fronts are as long are equal by their fronts and by what is behind them

@@ -7,7 +7,6 @@ use Rattle.cd_message.specs.declared.message.MsgWhy.{MsgWhy}
 use Rattle.cd_message.specs.Messages.{message_of}
 use Rattle.cd_message.specs.Weights.{weight_of}
 use Rattle.cd_pairing.specs.declared.keyed.TheConstants.{LEAST_WEIGHT}
-use Rattle.cd_ident.specs.declared.ends.Ends.{Ends}
 use Rattle.cd_ident.specs.declared.event.Kind.{Kind}
 use Rattle.cd_ident.specs.declared.event.Kind.TheVariants.{Query, Response, Malformed, Discarded}
 use Rattle.cd_ident.specs.declared.event.Body.{Body}
@@ -15,7 +14,7 @@ use Rattle.cd_ident.specs.declared.event.Body.TheVariants.{Message, Payload, Not
 use Rattle.cd_ident.specs.declared.event_rules.EventRules.{EventRules}
 use Rattle.cd_ident.specs.declared.identifiers.Ids.{Ids}
 use Rattle.cd_ident.specs.Headers.{qr_of, opcode_of, is_listed}
-use Rattle.cd_ident.specs.Identifiers.{ends_of, primary_of, secondary_of, bare_ids}
+use Rattle.cd_ident.specs.Identifiers.{Ends, ends_of, primary_of, secondary_of, bare_ids}
 
 -- all fields of an event
 pub record EventParts : Type 0 where

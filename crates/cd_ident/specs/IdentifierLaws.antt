@@ -5,9 +5,8 @@ use Rattle.cd_message.specs.declared.message.Question.{Question}
 use Rattle.cd_message.specs.declared.message.Message.{Message}
 use Rattle.cd_message.specs.WrittenLaws.{QuestionNumbersFit}
 use Rattle.cd_packet.specs.Layers.{Datagram}
-use Rattle.cd_ident.specs.declared.ends.Ends.{Ends}
 use Rattle.cd_ident.specs.Headers.{qr_of, opcode_of}
-use Rattle.cd_ident.specs.Identifiers.{primary_of, secondary_of}
+use Rattle.cd_ident.specs.Identifiers.{Ends, primary_of, secondary_of}
 use Rattle.cd_ident.specs.Events.{message_ids}
 
 -- addresses of sixteen octets, and ports of two bytes

@@ -4,10 +4,17 @@ use Rattle.std.specs.Int.{w16, to_be_bytes}
 use Rattle.std.specs.Cmp.Lexicographic.{pointwise}
 use Rattle.cd_name.specs.Names.{lower_case}
 use Rattle.cd_message.specs.declared.message.Question.{Question}
+use Rattle.cd_packet.specs.declared.address.Addr.{Addr}
 use Rattle.cd_packet.specs.Layers.{Datagram}
 use Rattle.cd_pairing.specs.Events.{secondaries_agree}
-use Rattle.cd_ident.specs.declared.ends.Ends.{Ends}
 use Rattle.cd_ident.specs.declared.identifiers.Ids.{Ids}
+
+-- who asks and who answers
+pub record Ends : Type 0 where
+  pub client : Addr
+  pub server : Addr
+  pub client_port : ℕ
+  pub server_port : ℕ
 
 -- a datagram's source asks and its destination answers, or the other way round
 abbrev pub ends_of : Bool → Datagram → Ends

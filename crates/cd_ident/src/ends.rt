@@ -3,6 +3,7 @@
 ghost use Rattle.std.specs.Prelude.{◌≡◌};
 ghost use Rattle.cd_ident.specs.Datagrams.{datagram_of};
 ghost use Rattle.cd_ident.specs.Identifiers.{ends_of};
+ghost use Rattle.cd_ident.specs.KeptEnds.{kept_ends};
 
 use cd_packet::{Addr, Dgram};
 
@@ -17,7 +18,7 @@ pub(crate) struct Ends {
 
 // The ends of a datagram whose source is the client, or the server.
 pub(crate) fn ends_of(from_client: bool, dgram: &Dgram) -> Ends
-    ensures { result ≡ ends_of from_client (datagram_of dgram.now) }
+    ensures { kept_ends result ≡ ends_of from_client (datagram_of dgram.now) }
 {
     if from_client {
         Ends {

@@ -6,6 +6,7 @@ ghost use Rattle.cd_ident.specs.Bodies.{HasBody};
 ghost use Rattle.cd_ident.specs.Datagrams.{datagram_of};
 ghost use Rattle.cd_ident.specs.Events.{event_parts, malformed_parts, message_parts, parts_of_payload};
 ghost use Rattle.cd_ident.specs.Identifiers;
+ghost use Rattle.cd_ident.specs.KeptEnds.{kept_ends};
 ghost use Rattle.cd_ident.specs.Keys.{parts_of};
 
 use crate::ends::{Ends, ends_of};
@@ -21,7 +22,7 @@ use std::alloc::{AllocError, Global};
 
 // The identifiers of what is no message, or is not listed.
 fn bare_ids(ends: &Ends) -> Ids
-    ensures exact { result ≡ Identifiers.bare_ids ends.now }
+    ensures exact { result ≡ Identifiers.bare_ids (kept_ends ends.now) }
     ensures transport { slice_index result.primary 37 ≤ 15 }
 {
     Ids {
@@ -44,7 +45,7 @@ fn event_between(
     requires fits { length dgram.now.payload.now ≤ 65535 }
     requires small_transport { slice_index ids.primary 37 ≤ 15 }
     requires has_body { HasBody kind body }
-    ensures { parts_of result ≡ parts_of_payload (datagram_of dgram.now) ends kind trailing ids weight body }
+    ensures { parts_of result ≡ parts_of_payload (datagram_of dgram.now) (kept_ends ends) kind trailing ids weight body }
 {
     Event {
         time: dgram.time,

@@ -2,6 +2,7 @@
 
 ghost use Rattle.std.specs.Prelude.{◌≡◌, ◌+◌, ◌≤◌, ◌++◌, length, take, slice_index};
 ghost use Rattle.cd_ident.specs.Identifiers.{primary_of};
+ghost use Rattle.cd_ident.specs.KeptEnds.{kept_ends};
 
 use crate::ends::Ends;
 
@@ -21,7 +22,7 @@ fn put(bytes: &mut [u8], at: usize, piece: &[u8]) -> usize
 
 // The primary of these ends, ID and opcode.
 pub(crate) fn primary_of(ends: &Ends, id: u16, opcode: u8) -> [u8; 41]
-    ensures exact { result ≡ primary_of ends.now id opcode }
+    ensures exact { result ≡ primary_of (kept_ends ends.now) id opcode }
     ensures transport { slice_index result 37 ≡ 0 }
 {
     let mut primary = [0; 41];
