@@ -1,0 +1,4 @@
+pub mod Reading
+pub mod Fronts
+pub mod Giving
+pub mod Laws

@@ -1,0 +1,79 @@
+-- What a reader of a pcap capture keeps, and for which histories it stands.
+use Rattle.std.specs.Prelude.{◌≡◌, ℕ, ◌+◌, ◌≤◌, nat_lt, List, [], ◌∷◌, ◌++◌, length, drop, Option, Some, None, if◌then◌else◌}
+use Rattle.cd_packet.specs.Capture.{Capture, ends, after}
+use Rattle.cd_packet.specs.Pcap.{pcap, records}
+use Rattle.cd_packet.specs.declared.packet.Packet.{Packet}
+use Rattle.cd_packet.specs.declared.capture.BadCapture.{BadCapture}
+use Rattle.cd_packet.specs.declared.capture.CaptureWhy.TheVariants.{Magic}
+use Rattle.cd_packet.specs.declared.capture.EndState.{EndState}
+use Rattle.cd_packet.specs.declared.capture.EndState.TheVariants.{Whole, Cut, Bad}
+
+-- what a reader keeps
+pub record Kept : Type 0 where
+  -- how many bytes were fed
+  pub fed_count : ℕ
+  -- the bytes that were fed and are not read, up to a refused place
+  pub held : List ℕ
+  -- their offset in the capture
+  pub at : ℕ
+  -- so many of the bytes held are whole records: the mark stands behind them
+  pub whole : ℕ
+  -- the link type, once the header is read
+  pub link : Option ℕ
+  -- the refused place, once it came
+  pub refused : Option BadCapture
+
+-- what is read of these bytes from here on
+abbrev pub reading_on : Option ℕ → ℕ → List ℕ → Capture
+reading_on None at bytes = pcap bytes
+reading_on (Some link) at bytes = records link 0 at bytes
+
+-- these bytes are whole records, of which there are none before the header
+abbrev pub AreWhole : Option ℕ → ℕ → List ℕ → Type 0
+AreWhole None at bytes = (at ≡ 0) × (bytes ≡ [])
+AreWhole (Some link) at bytes = (records link 0 at bytes).end ≡ Whole
+
+-- the end of bytes that hold neither a whole record nor a refused place: fewer than four are no capture
+abbrev pub open_end : Option ℕ → List ℕ → EndState
+open_end None bytes = if nat_lt (length bytes) 4 then Bad (record { at = 0; why = Magic }) else Cut
+open_end (Some link) [] = Whole
+open_end (Some link) (byte ∷ bytes) = Cut
+
+-- these bytes hold neither a whole record nor a refused place
+abbrev pub AreOpen : Option ℕ → ℕ → List ℕ → Type 0
+AreOpen link at bytes = reading_on link at bytes ≡ ends (open_end link bytes)
+
+-- these bytes begin with a refused place, however they go on
+pub record AreRefused (link : Option ℕ) (at : ℕ) (bad : BadCapture) (bytes : List ℕ) : Type 0 where
+  pub told : 4 ≤ length bytes
+  pub reads : (more : List ℕ) → reading_on link at (bytes ++ more) ≡ ends (Bad bad)
+
+-- what stands behind the mark: bytes that are all held and open, or a refused place, from which on nothing is held
+abbrev pub StandsBehind : Option BadCapture → Option ℕ → ℕ → List ℕ → List ℕ → Type 0
+StandsBehind None link at held behind = AreOpen link at held × (behind ≡ [])
+StandsBehind (Some bad) link at held behind = (held ≡ []) × AreRefused link at bad behind
+
+-- Of the bytes fed, the first are read, the next are held, and those behind are let go. However the bytes go on behind
+-- those that are read, the capture is the packets given, and then what is read from here on.
+pub record HasRead (r : Kept) (fed behind : List ℕ) (given : List Packet) : Type 0 where
+  pub front : List ℕ
+  pub split : fed ≡ front ++ (r.held ++ behind)
+  pub count : length fed ≡ r.fed_count
+  pub place : length front ≡ r.at
+  pub reads : (more : List ℕ) → pcap (front ++ more) ≡ after given (reading_on r.link r.at more)
+
+-- The reader stands for the bytes fed and the packets given: some bytes are read, and behind the mark no whole record stands.
+pub record StandsFor (r : Kept) (fed : List ℕ) (given : List Packet) : Type 0 where
+  pub behind : List ℕ
+  pub read : HasRead r fed behind given
+  pub mark : StandsBehind r.refused r.link (r.at + r.whole) (drop r.whole r.held) behind
+
+-- the refused place of an end
+abbrev pub refusal_in : EndState → Option BadCapture
+refusal_in Whole = None
+refusal_in Cut = None
+refusal_in (Bad bad) = Some bad
+
+-- the refused place of a capture of these bytes, which fewer than four bytes don't tell yet
+unfoldable pub refusal_of : List ℕ → Option BadCapture
+refusal_of bytes = if nat_lt (length bytes) 4 then None else refusal_in (pcap bytes).end

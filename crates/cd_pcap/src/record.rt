@@ -1,0 +1,190 @@
+//! The header and the records of a little-endian pcap capture with microseconds (the pcap draft, 4 and 5).
+
+ghost use Rattle.std.specs.Prelude.{◌≡◌, ◌+◌, ◌*◌, ◌≤◌, ◌^◌, length, IfOk};
+ghost use Rattle.cd_packet.specs.Pcap.{captured_length, packet_at};
+ghost use Rattle.cd_packet.specs.Time.{when_at};
+ghost use Rattle.cd_pcap.specs.Fronts.{HeaderIs, FrontIs, RecordsAre};
+ghost use Rattle.cd_pcap.specs.Reading.{open_end};
+
+use cd_bytes::{le16, le32};
+use cd_name::Blob;
+use cd_packet::{BadCapture, CaptureWhy, EndState, Packet, When, has_magic};
+use std::alloc::{AllocError, Global};
+
+const MAGIC: u32 = 0xa1b2_c3d4;
+
+// As many bytes tell whether a capture is of a format that is read.
+const MAGIC_SIZE: usize = 4;
+
+/// As many bytes has the header of a capture.
+pub const HEADER: usize = 24;
+
+const RECORD_HEADER: usize = 16;
+
+// The greatest captured length that a record may have.
+const MOST_CAPTURED: u32 = 262_144;
+
+// The first nanosecond that is no time: 2^32 seconds.
+const END_OF_TIME: u64 = 4_294_967_296_000_000_000;
+
+/// What stands at the front of a capture.
+#[derive(Drop)]
+pub enum Header {
+    /// A header of this link type.
+    Link(u16),
+    /// No whole header.
+    Open,
+    /// A refused place.
+    Refused(BadCapture),
+}
+
+/// What stands at the front of some bytes behind the header.
+#[derive(Drop)]
+pub enum Front {
+    /// A whole record of this many bytes.
+    Record(usize),
+    /// No whole record.
+    Open,
+    /// A refused place.
+    Refused(BadCapture),
+}
+
+/// The whole records at the front of some bytes behind the header.
+#[derive(Drop)]
+pub struct Records {
+    /// How many bytes they have.
+    pub size: usize,
+    /// The refused place behind them, where it came.
+    pub refused: Option<BadCapture>,
+}
+
+/// What stands at the front of these first bytes of a capture (the pcap draft, 4).
+pub fn header_of(bytes: &[u8]) -> Header
+    ensures { HeaderIs bytes.now result }
+{
+    if bytes.len() < MAGIC_SIZE {
+        return Header::Open;
+    }
+    if !has_magic(bytes, MAGIC) {
+        return Header::Refused(BadCapture {
+            at: 0,
+            why: CaptureWhy::Magic,
+        });
+    }
+    if bytes.len() < HEADER {
+        return Header::Open;
+    }
+    if le16(bytes, 4) != 2 {
+        return Header::Refused(BadCapture {
+            at: 0,
+            why: CaptureWhy::Version,
+        });
+    }
+    Header::Link(le16(bytes, 20))
+}
+
+// What stands at the front of these bytes behind the header, at this offset (the pcap draft, 5).
+fn front_of(at: u64, bytes: &[u8]) -> Front
+    ensures { FrontIs at bytes.now result }
+{
+    if bytes.len() < RECORD_HEADER {
+        return Front::Open;
+    }
+    let size = le32(bytes, 8);
+    if MOST_CAPTURED < size {
+        return Front::Refused(BadCapture {
+            at,
+            why: CaptureWhy::Record,
+        });
+    }
+    if bytes.len() - RECORD_HEADER < size as usize {
+        return Front::Open;
+    }
+    Front::Record(RECORD_HEADER + size as usize)
+}
+
+/// The whole records at the front of these bytes behind the header, at this offset.
+pub fn whole_records(at: u64, bytes: &[u8]) -> Records
+    requires { at + length bytes.now ≤ 2 ^ 48 }
+    ensures { RecordsAre at bytes.now result }
+{
+    let mut size = 0;
+    'records: loop {
+        match front_of(at + size as u64, &bytes[size..]) {
+            Front::Record(more) => size += more,
+            Front::Open => return Records {
+                size,
+                refused: None,
+            },
+            Front::Refused(bad) => {
+                return Records {
+                    size,
+                    refused: Some(bad),
+                };
+            }
+        }
+    }
+}
+
+/// How these bytes end, where they hold neither a whole record nor a refused place. Fewer than four are no capture.
+pub fn open_end(link: Option<u16>, bytes: &[u8]) -> EndState
+    ensures { result ≡ open_end link bytes.now }
+{
+    match link {
+        Some(_) => {
+            if bytes.is_empty() {
+                EndState::Whole
+            } else {
+                EndState::Cut
+            }
+        }
+        None => {
+            if bytes.len() < MAGIC_SIZE {
+                EndState::Bad(BadCapture {
+                    at: 0,
+                    why: CaptureWhy::Magic,
+                })
+            } else {
+                EndState::Cut
+            }
+        }
+    }
+}
+
+/// How many bytes the record at the front of these bytes has.
+pub fn record_size(bytes: &[u8]) -> usize
+    requires { 16 ≤ length bytes.now }
+    ensures { result ≡ 16 + captured_length bytes.now }
+{
+    RECORD_HEADER + le32(bytes, 8) as usize
+}
+
+// The time of some seconds and microseconds since 1970.
+fn time_of(seconds: u32, micros: u32) -> When
+    ensures { result ≡ when_at (seconds * 1000000000 + micros * 1000) }
+{
+    let nanos = seconds as u64 * 1_000_000_000 + micros as u64 * 1_000;
+    if nanos < END_OF_TIME {
+        When::At(nanos)
+    } else {
+        When::Outside
+    }
+}
+
+/// The packet of the whole record at the front of these bytes behind the header, at this offset (the pcap draft, 5).
+pub fn packet_of(alloc: Global, link: u16, at: u64, bytes: &[u8]) -> Result<Packet, AllocError>
+    requires { 16 + captured_length bytes.now ≤ length bytes.now }
+    ensures { IfOk result (λ p. p ≡ packet_at link at bytes.now) }
+{
+    let size = le32(bytes, 8) as usize;
+    let when = time_of(le32(bytes, 0), le32(bytes, 4));
+    let original = le32(bytes, 12);
+    let captured = &bytes[RECORD_HEADER..RECORD_HEADER + size];
+    Ok(Packet {
+        at,
+        when,
+        link,
+        original,
+        bytes: Blob::from_vec(Vec::from_slice(alloc, captured)?),
+    })
+}
