@@ -1,5 +1,5 @@
 -- What the intake knows of the bytes that it has taken.
-use Rattle.std.proofs.Common.{◌≡◌, ℕ, ◌+◌, ◌<◌, ◌≤◌, min, Bool, true, false, ◌&&◌, cond, List, [], ◌∷◌, ◌++◌, length, take, drop, Option, Some, None, is_some, refl, ap, sym, ◌∙◌, arith, append_assoc, length-append}
+use Rattle.std.proofs.Common.{◌≡◌, ℕ, ◌+◌, ◌<◌, ◌≤◌, min, Bool, true, false, ◌&&◌, cond, List, [], ◌∷◌, ◌++◌, length, take, drop, Option, Some, None, is_some, refl, ap, sym, ◌∙◌, arith, append_assoc}
 use Rattle.std.specs.Prelude.{nat_lt}
 use Rattle.std.proofs.lemmas.List.{length-take, take-append-drop}
 use Rattle.std.proofs.lemmas.List.Elements.{filter_map-append}
@@ -11,7 +11,9 @@ use Rattle.cd_packet.specs.declared.packet.Packet.{Packet}
 use Rattle.cd_top.specs.Events.{query_of, queries_of, events}
 use Rattle.cd_top.specs.Gathered.{Follows, Drains, Judges, served_query}
 use Rattle.cd_top.specs.Endings.{is_other_format, is_served, first_unserved, status_of_end, status_of_packets, status_of_capture, status_said, most_packets}
-use Rattle.cd_top.specs.Reading.{Unread, StandsFor, BeforeRefused, fed_count, reading_on}
+use Rattle.cd_pcap.specs.Reading.{Kept, StandsFor}
+use Rattle.cd_pcap.proofs.Refusals.{packets_before}
+use Rattle.cd_pcap.proofs.Standing.{given_first}
 use Rattle.cd_top.specs.declared.intake.Intake.{Intake}
 use Rattle.cd_top.specs.declared.query.Query.{Query}
 use Rattle.cd_top.specs.declared.status.Status.{Status}
@@ -20,31 +22,30 @@ use Rattle.cd_packet.proofs.Records.{pcap-magic, pcap-none}
 use Rattle.cd_packet.proofs.Growing.{has_magic-few}
 use Rattle.cd_top.proofs.Judging.{served-append, served-count, other-append, other-not_read, status_said-few, status_said-other}
 
--- as many bytes were fed as the reader says
-pub stands_count : (r : Unread) (fed : List ℕ) (given : List Packet) → StandsFor r fed given → length fed ≡ fed_count r
-stands_count r fed given h = ap length h.split ∙ length-append h.front r.held ∙ ap (λ n. n + length r.held) h.place
-
--- the packets given are the first of the bytes fed
-pub given_first : (r : Unread) (fed : List ℕ) (given : List Packet) → StandsFor r fed given → (rest : List Packet) × ((pcap fed).packets ≡ given ++ rest)
-given_first r fed given h =
-    ((reading_on r.link r.at r.held).packets, ap (λ t. (pcap t).packets) h.split ∙ ap (λ (c : Capture). c.packets) (h.reads r.held))
+-- what the packets that can all be compacted and the end say
+drained : (fed : List ℕ) (given : List Packet) (e : EndState) → first_unserved 0 given ≡ None → (pcap fed).packets ≡ given → e ≡ (pcap fed).end →
+    status_of_capture (pcap fed) ≡ status_of_end e
+drained fed given e served packets end =
+    ap (λ ps. status_of_packets (first_unserved 0 ps) (pcap fed).end) packets ∙ ap (λ o. status_of_packets o (pcap fed).end) served
+    ∙ ap status_of_end (sym end)
 
 -- the end of bytes whose packets can all be compacted
 pub drains_end : (i : Intake) (fed : List ℕ) (given : List Packet) (e : EndState) → first_unserved 0 given ≡ None → i.queries ≡ queries_of given →
-    i.first.items ≡ take 4 fed → StandsFor i.reader fed given → pcap fed ≡ record { packets = given; end = e } → BeforeRefused e fed given →
-    Drains i fed (status_of_end e)
-drains_end i fed given Whole served queries first stands is before = (
+    i.first.items ≡ take 4 fed → StandsFor i.reader fed given → (pcap fed).packets ≡ given → e ≡ (pcap fed).end → Drains i fed (status_of_end e)
+drains_end i fed given Whole served queries first stands packets end = (
   record { given = given; stands = stands; served = served; queries = queries; first = first },
-  ap status_of_capture is ∙ ap (λ o. status_of_packets o Whole) served,
-  queries ∙ sym (ap (λ (c : Capture). queries_of c.packets) is),
+  drained fed given Whole served packets end,
+  queries ∙ sym (ap queries_of packets),
 )
-drains_end i fed given Cut served queries first stands is before = (
+drains_end i fed given Cut served queries first stands packets end = (
   record { given = given; stands = stands; served = served; queries = queries; first = first },
-  ap status_of_capture is ∙ ap (λ o. status_of_packets o Cut) served,
-  queries ∙ sym (ap (λ (c : Capture). queries_of c.packets) is),
+  drained fed given Cut served packets end,
+  queries ∙ sym (ap queries_of packets),
 )
-drains_end i fed given (Bad b) served queries first stands is before =
-    (ap status_of_capture is ∙ ap (λ o. status_of_packets o (Bad b)) served, queries ∙ sym (ap queries_of before))
+drains_end i fed given (Bad b) served queries first stands packets end = (
+  drained fed given (Bad b) served packets end,
+  queries ∙ sym (ap queries_of (packets_before fed b (sym end) ∙ packets)),
+)
 
 some_chosen : (b : Bool) (o : Option Query) → is_some (cond b o None) ≡ (b && is_some o)
 some_chosen true o = refl
@@ -55,7 +56,7 @@ served_is : (n : ℕ) (p : Packet) → is_some (served_query n p) ≡ is_served 
 served_is n p = some_chosen (nat_lt n most_packets) (query_of p)
 
 -- a packet that can't be compacted behind those that can
-pub drains_unserved : (before : List Query) (r : Unread) (fed : List ℕ) (given : List Packet) (p : Packet) → first_unserved 0 given ≡ None → before ≡ queries_of given →
+pub drains_unserved : (before : List Query) (r : Kept) (fed : List ℕ) (given : List Packet) (p : Packet) → first_unserved 0 given ≡ None → before ≡ queries_of given →
     StandsFor r fed (given ++ p ∷ []) → (pcap (take p.at fed)).packets ≡ given → None ≡ served_query (length before) p →
     (status_of_capture (pcap fed) ≡ Some (status.NotYet p.at)) × (before ≡ events (take p.at fed))
 drains_unserved before r fed given p served queries stands packets_before none =

@@ -1,6 +1,4 @@
 pub mod Places
-pub mod Fronts
-pub mod Standing
 pub mod Judging
 pub mod Following
 pub mod Waiting

@@ -3,10 +3,10 @@ use Rattle.std.proofs.Common.{◌≡◌, ℕ, ◌+◌, ◌-◌, ◌<◌, ◌≤�
 use Rattle.std.specs.Prelude.{unwrap_or, OnErr, ◌||◌, ◌&&◌, nat_eq, zero, suc}
 use Rattle.std.proofs.lemmas.Bool.{cases_lt, cases_Bool, false≢true}
 use Rattle.std.proofs.lemmas.List.{append-nil}
-use Rattle.std.specs.Io.KnownBytes.{Consumes}
+use Rattle.std.specs.Io.KnownBytes.{Consumes, Keeps}
 use Rattle.cd_packet.specs.Pcap.{pcap}
 use Rattle.cd_packet.proofs.Extending.{pcap-few}
-use Rattle.cd_ports.proofs.Steps.{consumes_then, consumes_none, keeps_same}
+use Rattle.cd_ports.proofs.Steps.{consumes_then, consumes_none, consumes_kept, keeps_same}
 use Rattle.cd_top.specs.Events.{events}
 use Rattle.cd_top.specs.Gathered.{Follows, Judges, Gathers, IsEnding}
 use Rattle.cd_top.specs.Endings.{is_other_format, status_said, ended_by, used_bytes, most_taken, StopsReading}
@@ -132,6 +132,14 @@ pub ends_done : (old now : Option (List ℕ)) (i j : Intake) (room : ℕ) → Ta
 ends_done old now i j room h judges =
     let k = judges h.taken h.follows in
     (h.taken, h.took, (record { status = sym (ap (λ o. unwrap_or o status.Done) k.1); queries = k.2 }, h.stops))
+
+-- the source failed, and the bytes say nothing yet
+pub ends_failed : (old a b : Option (List ℕ)) (i : Intake) (room : ℕ) → Awaits old a i room → Keeps a b → Ends old b false (record { status = status.ReadFault; queries = i.queries })
+ends_failed old a b i room h kept = (
+  h.taken,
+  consumes_kept old a b h.taken h.took kept,
+  (record { status = sym (ap (λ o. unwrap_or o status.ReadFault) h.unsaid); queries = h.queries }, awaits_stops old a i room h),
+)
 
 -- the bytes say nothing yet
 pub awaits_more : (old now : Option (List ℕ)) (i j : Intake) (room : ℕ) → Taken old now i room →

@@ -6,7 +6,7 @@ use Rattle.cd_packet.specs.declared.packet.Packet.{Packet}
 use Rattle.cd_ports.specs.Reading.{SourceMeaning}
 use Rattle.cd_top.specs.Events.{events, queries_of, query_of}
 use Rattle.cd_top.specs.Endings.{first_unserved, status_said, status_of_capture, used_bytes, ended_by, most_packets}
-use Rattle.cd_top.specs.Reading.{StandsFor}
+use Rattle.cd_pcap.specs.Reading.{StandsFor}
 use Rattle.cd_top.specs.declared.intake.Intake.{Intake}
 use Rattle.cd_top.specs.declared.gathering.Gathered.{Gathered}
 use Rattle.cd_top.specs.declared.query.Query.{Query}

@@ -5,9 +5,6 @@ pub mod Interning
 pub mod Tree
 pub mod File
 pub mod Parts
-pub mod Reading
-pub mod Fronts
-pub mod Giving
 pub mod Words
 pub mod Endings
 pub mod Gathered

@@ -3,13 +3,12 @@
 ghost use Rattle.std.specs.Prelude.{◌≡◌, ℕ, ◌+◌, ◌≤◌, ◌^◌, ◌++◌, [], List, length, take, IfOk, OnOk, OnErr, IsTrue, ◌↔◌};
 ghost use Rattle.cd_top.specs.Gathered.{Follows, Drains, Judges, served_query};
 ghost use Rattle.cd_top.specs.Endings.{is_other_format, status_of_end};
-ghost use Rattle.cd_top.specs.Reading.{fed_count};
 
 use crate::Status;
-use crate::capture_reader::{CaptureReader, Next};
 use crate::query::{Query, query_of};
 use cd_name::List;
-use cd_packet::{EndState, Packet, has_magic};
+use cd_packet::{EndState, FeedFault, Packet, has_magic};
+use cd_pcap::PcapReader;
 use std::alloc::{AllocError, Global};
 
 /// So many packets can be compacted so far.
@@ -31,7 +30,7 @@ const MAGIC_SIZE: usize = 4;
 /// What is gathered of a capture that comes in pieces.
 #[derive(Drop)]
 pub struct Intake {
-    reader: CaptureReader,
+    reader: PcapReader,
     /// The first four bytes, or as many as there are.
     first: Vec<u8>,
     /// The queries of the packets read so far, in their order.
@@ -66,7 +65,7 @@ impl Intake {
         ensures { Follows result [] }
     {
         Intake {
-            reader: CaptureReader::new(alloc),
+            reader: PcapReader::new(alloc),
             first: Vec::new(alloc),
             queries: List::from_vec(Vec::new(alloc)),
         }
@@ -92,12 +91,17 @@ impl Intake {
     /// Takes the next piece of the capture, of which all pieces have at most 2^48 bytes. An `Err` of any call says that no
     /// memory was found, and then the intake is of no more use.
     pub fn feed(&mut self, piece: &[u8]) -> Result<(), AllocError>
-        requires { fed_count self.old.reader + length piece.now ≤ 2 ^ 48 }
+        requires { self.old.reader.fed_count + length piece.now ≤ 2 ^ 48 }
         ensures history { OnOk result ((fed : List ℕ) → Follows self.old fed → Follows self.new (fed ++ piece.now)) }
-        ensures count { OnOk result (fed_count self.new.reader ≡ fed_count self.old.reader + length piece.now) }
+        ensures count { OnOk result (self.new.reader.fed_count ≡ self.old.reader.fed_count + length piece.now) }
     {
         self.keep_first(piece)?;
-        self.reader.feed(piece)
+        match self.reader.feed(piece) {
+            Ok(()) => Ok(()),
+            // Its end tells the refused place, once the packets before it are taken.
+            Err(FeedFault::Bad(_)) => Ok(()),
+            Err(FeedFault::NoMemory) => Err(AllocError),
+        }
     }
 
     // The query of the next packet, where it can be compacted.
@@ -114,13 +118,13 @@ impl Intake {
     // Takes the packets that are there whole, up to one that can't be compacted.
     fn drain(&mut self) -> Result<Option<Status>, AllocError>
         ensures history { IfOk result (λ said. (fed : List ℕ) → Follows self.old fed → Drains self.new fed said) }
-        ensures count { OnOk result (fed_count self.new.reader ≡ fed_count self.old.reader) }
+        ensures count { OnOk result (self.new.reader.fed_count ≡ self.old.reader.fed_count) }
     {
         'packets: loop {
             let next = self.reader.next()?;
             match next {
-                Next::End(end) => return Ok(status_of(end)),
-                Next::Packet(packet) => match self.served(&packet) {
+                None => return Ok(status_of(self.reader.end())),
+                Some(packet) => match self.served(&packet) {
                     None => return Ok(Some(Status::NotYet { at: packet.at })),
                     Some(query) => match self.queries.push(query) {
                         Ok(()) => {}
@@ -134,7 +138,7 @@ impl Intake {
     /// What the bytes taken say of how the run ends, where they say it. Fewer than four say nothing before the end was told.
     pub fn judge(&mut self, told_end: bool) -> Result<Option<Status>, AllocError>
         ensures history { IfOk result (λ said. (fed : List ℕ) → Follows self.old fed → Judges told_end self.new fed said) }
-        ensures count { OnOk result (fed_count self.new.reader ≡ fed_count self.old.reader) }
+        ensures count { OnOk result (self.new.reader.fed_count ≡ self.old.reader.fed_count) }
     {
         if self.first.len() < MAGIC_SIZE {
             if told_end {

@@ -6,20 +6,18 @@
 //! - A *block* holds all queries, with its *tables*, in which each address and each *signature* stands once (`tables`).
 //! - The *file* is its beginning, the block where there is a query, and its end (`file_writing`), in CBOR (`spelling`).
 //!
-//! The way of the data: bytes, packets and their queries (`gathering`, `intake`, `capture_reader`, `record`), the block of
-//! the queries (`tables`, `intern`), its spelling (`block_writing`, `spelling`), the file (`file_writing`).
+//! The way of the data: bytes, packets and their queries (`gathering`, `intake`), the block of the queries (`tables`,
+//! `intern`), its spelling (`block_writing`, `spelling`), the file (`file_writing`).
 #![tactic(auto)]
 
 mod block;
 mod block_writing;
-mod capture_reader;
 mod compaction;
 mod file_writing;
 mod gathering;
 mod intake;
 mod intern;
 mod query;
-mod record;
 mod run;
 mod spelling;
 mod status;

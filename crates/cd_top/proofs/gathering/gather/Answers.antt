@@ -5,7 +5,7 @@ use Rattle.std.specs.Io.KnownBytes.{Consumes}
 use Rattle.cd_top.specs.Gathered.{IsEnding}
 use Rattle.cd_top.specs.declared.status.Status.{Status}
 use Rattle.cd_top.specs.declared.status.Status.TheVariants as status
-use Rattle.cd_top.proofs.Waiting.{Taken, awaits_none, awaits_room, took_none, took_piece, taken_piece, ends_said, ends_done, awaits_more, said_ending, calls_within, on_err, ends_at, failed_stays, late_stays, some_count}
+use Rattle.cd_top.proofs.Waiting.{Taken, awaits_none, awaits_room, took_none, took_piece, taken_piece, ends_said, ends_done, ends_failed, awaits_more, said_ending, calls_within, on_err, ends_at, failed_stays, late_stays, some_count}
 use Rattle.cd_top.proofs.gathering.gather.Goals as goal
 
 pub returns-in_err-piece-clause-err : goal.returns-in_err-piece-clause-err
@@ -28,6 +28,12 @@ pub returns-in-Err-clause-calls : goal.returns-in-Err-clause-calls
 returns-in-Err-clause-calls g c =
     let some = awaits_room _ _ _ _ c.pieces.invariant.awaits in
     (calls_within _ _ _ c.pieces.room 0 c.pieces.invariant.calls c.read_front.ensures.calls some (omega arith)).1
+
+pub returns-in-Err-clause-ok : goal.returns-in-Err-clause-ok
+returns-in-Err-clause-ok g c =
+    let e = c.ended_with.ensures in
+    ends_at _ _ _ false status.ReadFault c.pieces.intake.queries _ c.in-Err.ensures.ended e.status e.queries
+    (ends_failed _ _ _ c.pieces.intake _ c.pieces.invariant.awaits c.in-Err.ensures.bytes)
 
 pub returns-in_err-feed-clause-calls : goal.returns-in_err-feed-clause-calls
 returns-in_err-feed-clause-calls g c =

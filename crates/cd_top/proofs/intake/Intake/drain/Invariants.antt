@@ -1,12 +1,11 @@
 use Rattle.std.proofs.Common.{◌≡◌, ℕ, List, length}
 use Rattle.cd_top.specs.Gathered.{Follows}
-use Rattle.cd_top.specs.Reading.{fed_count}
 use Rattle.cd_top.proofs.intake.Intake.drain.Given as goal
 
 abbrev pub invariant-packets : goal.invariant-packets
 invariant-packets l = record {
   history : (fed : List ℕ) → Follows l.fn.self fed → Follows l.self fed;
-  count : fed_count l.self.reader ≡ fed_count l.fn.self.reader;
+  count : l.self.reader.fed_count ≡ l.fn.self.reader.fed_count;
 }
 
 abbrev pub decreases-packets : goal.decreases-packets
