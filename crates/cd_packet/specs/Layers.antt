@@ -1,5 +1,5 @@
 -- What the layers of a packet hold: Ethernet, IPv4 (RFC 791 3.1) and UDP (RFC 768). The first rule that applies decides.
-use Rattle.std.specs.Prelude.{◌≡◌, ℕ, ◌+◌, ◌-◌, ◌*◌, ◌%◌, ◌/◌, ◌≤◌, false, nat_lt, nat_eq, ◌&&◌, ◌||◌, not, List, [], ◌∷◌, length, take, drop, slice_index, if◌then◌else◌, refl}
+use Rattle.std.specs.Prelude.{◌≡◌, ℕ, ◌+◌, ◌-◌, ◌*◌, ◌%◌, ◌/◌, ◌≤◌, false, nat_lt, nat_eq, ◌&&◌, ◌||◌, not, List, [], ◌∷◌, length, take, drop, slice_index, if◌then◌else◌, refl, ⊤}
 use Rattle.cd_packet.specs.declared.address.Addr.{Addr}
 use Rattle.cd_packet.specs.declared.datagram.Layer.{Layer}
 use Rattle.cd_packet.specs.declared.datagram.Layer.TheVariants as layer
@@ -29,6 +29,11 @@ pub data Found : Type 0 where
 abbrev pub found_in : Layer → Found
 found_in (layer.Dgram d) = datagram (record { time = d.time; src = d.src; dst = d.dst; sport = d.sport; dport = d.dport; hop = d.hop; payload = d.payload.now })
 found_in (layer.Skip r) = skipped r
+
+-- the addresses of a datagram have one version of IP
+abbrev pub HasOneVersion : Layer → Type 0
+HasOneVersion (layer.Dgram d) = d.src.v6 ≡ d.dst.v6
+HasOneVersion (layer.Skip r) = ⊤
 
 -- Bytes that are needed are not there: they were not captured, or the packet never had them.
 abbrev pub skip_for_missing : Packet → Found

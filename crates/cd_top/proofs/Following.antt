@@ -1,21 +1,23 @@
 -- What the intake knows of the bytes that it has taken.
-use Rattle.std.proofs.Common.{◌≡◌, ℕ, ◌+◌, ◌<◌, ◌≤◌, min, Bool, true, false, ◌&&◌, cond, List, [], ◌∷◌, ◌++◌, length, take, drop, Option, Some, None, is_some, refl, ap, sym, ◌∙◌, arith, append_assoc}
+use Rattle.std.proofs.Common.{◌≡◌, ℕ, ◌+◌, ◌<◌, ◌≤◌, min, Bool, true, false, ◌&&◌, cond, List, [], ◌∷◌, ◌++◌, length, map, take, drop, Option, Some, None, is_some, refl, ap, sym, ◌∙◌, arith, append_assoc}
 use Rattle.std.specs.Prelude.{nat_lt}
-use Rattle.std.proofs.lemmas.List.{length-take, take-append-drop}
+use Rattle.std.proofs.lemmas.List.{length-map, length-take, map-append, take-append-drop}
 use Rattle.std.proofs.lemmas.List.Elements.{filter_map-append}
 use Rattle.cd_packet.specs.Capture.{Capture}
 use Rattle.cd_packet.specs.Pcap.{is_little_micro, pcap}
 use Rattle.cd_packet.specs.declared.capture.EndState.{EndState}
 use Rattle.cd_packet.specs.declared.capture.EndState.TheVariants.{Whole, Cut, Bad}
 use Rattle.cd_packet.specs.declared.packet.Packet.{Packet}
-use Rattle.cd_top.specs.Events.{query_of, queries_of, events}
-use Rattle.cd_top.specs.Gathered.{Follows, Drains, Judges, served_query}
+use Rattle.cd_top.specs.Events.{event_of, events_of, events}
+use Rattle.cd_top.specs.Gathered.{Follows, Drains, Judges, served_event}
 use Rattle.cd_top.specs.Endings.{is_other_format, is_served, first_unserved, status_of_end, status_of_packets, status_of_capture, status_said, most_packets}
 use Rattle.cd_pcap.specs.Reading.{Kept, StandsFor}
 use Rattle.cd_pcap.proofs.Refusals.{packets_before}
 use Rattle.cd_pcap.proofs.Standing.{given_first}
 use Rattle.cd_top.specs.declared.intake.Intake.{Intake}
-use Rattle.cd_top.specs.declared.query.Query.{Query}
+use Rattle.cd_ident.specs.Events.{EventParts}
+use Rattle.cd_ident.specs.Keys.{parts_of}
+use Rattle.cd_ident.specs.declared.event.Event.{Event}
 use Rattle.cd_top.specs.declared.status.Status.{Status}
 use Rattle.cd_top.specs.declared.status.Status.TheVariants as status
 use Rattle.cd_packet.proofs.Records.{pcap-magic, pcap-none}
@@ -30,38 +32,38 @@ drained fed given e served packets end =
     ∙ ap status_of_end (sym end)
 
 -- the end of bytes whose packets can all be compacted
-pub drains_end : (i : Intake) (fed : List ℕ) (given : List Packet) (e : EndState) → first_unserved 0 given ≡ None → i.queries ≡ queries_of given →
+pub drains_end : (i : Intake) (fed : List ℕ) (given : List Packet) (e : EndState) → first_unserved 0 given ≡ None → map parts_of i.events ≡ events_of given →
     i.first.items ≡ take 4 fed → StandsFor i.reader fed given → (pcap fed).packets ≡ given → e ≡ (pcap fed).end → Drains i fed (status_of_end e)
-drains_end i fed given Whole served queries first stands packets end = (
-  record { given = given; stands = stands; served = served; queries = queries; first = first },
+drains_end i fed given Whole served found first stands packets end = (
+  record { given = given; stands = stands; served = served; events = found; first = first },
   drained fed given Whole served packets end,
-  queries ∙ sym (ap queries_of packets),
+  found ∙ sym (ap events_of packets),
 )
-drains_end i fed given Cut served queries first stands packets end = (
-  record { given = given; stands = stands; served = served; queries = queries; first = first },
+drains_end i fed given Cut served found first stands packets end = (
+  record { given = given; stands = stands; served = served; events = found; first = first },
   drained fed given Cut served packets end,
-  queries ∙ sym (ap queries_of packets),
+  found ∙ sym (ap events_of packets),
 )
-drains_end i fed given (Bad b) served queries first stands packets end = (
+drains_end i fed given (Bad b) served found first stands packets end = (
   drained fed given (Bad b) served packets end,
-  queries ∙ sym (ap queries_of (packets_before fed b (sym end) ∙ packets)),
+  found ∙ sym (ap events_of (packets_before fed b (sym end) ∙ packets)),
 )
 
-some_chosen : (b : Bool) (o : Option Query) → is_some (cond b o None) ≡ (b && is_some o)
+some_chosen : (b : Bool) (o : Option EventParts) → is_some (cond b o None) ≡ (b && is_some o)
 some_chosen true o = refl
 some_chosen false o = refl
 
--- a packet can be compacted exactly where it has a query and room
-served_is : (n : ℕ) (p : Packet) → is_some (served_query n p) ≡ is_served n p
-served_is n p = some_chosen (nat_lt n most_packets) (query_of p)
+-- a packet can be compacted exactly where it has an event and room
+served_is : (n : ℕ) (p : Packet) → is_some (served_event n p) ≡ is_served n p
+served_is n p = some_chosen (nat_lt n most_packets) (event_of p)
 
 -- a packet that can't be compacted behind those that can
-pub drains_unserved : (before : List Query) (r : Kept) (fed : List ℕ) (given : List Packet) (p : Packet) → first_unserved 0 given ≡ None → before ≡ queries_of given →
-    StandsFor r fed (given ++ p ∷ []) → (pcap (take p.at fed)).packets ≡ given → None ≡ served_query (length before) p →
-    (status_of_capture (pcap fed) ≡ Some (status.NotYet p.at)) × (before ≡ events (take p.at fed))
-drains_unserved before r fed given p served queries stands packets_before none =
+pub drains_unserved : (before : List Event) (r : Kept) (fed : List ℕ) (given : List Packet) (p : Packet) → first_unserved 0 given ≡ None → map parts_of before ≡ events_of given →
+    StandsFor r fed (given ++ p ∷ []) → (pcap (take p.at fed)).packets ≡ given → None ≡ served_event (length before) p →
+    (status_of_capture (pcap fed) ≡ Some (status.NotYet p.at)) × (map parts_of before ≡ events (take p.at fed))
+drains_unserved before r fed given p served found stands packets_before none =
     let k = given_first r fed (given ++ p ∷ []) stands in
-    let count : length before ≡ length given = ap length queries ∙ served-count 0 given served in
+    let count : length before ≡ length given = sym (length-map before parts_of) ∙ ap length found ∙ served-count 0 given served in
     let unserved : is_served (0 + length given) p ≡ false =
     let zero_more : 0 + length given ≡ length before = omega arith in
     ap (λ n. is_served n p) zero_more ∙ sym (served_is (length before) p) ∙ ap is_some (sym none) in
@@ -69,29 +71,30 @@ drains_unserved before r fed given p served queries stands packets_before none =
     served-append 0 given (p ∷ k.0) served ∙ rw unserved refl in
     let packets : (pcap fed).packets ≡ given ++ p ∷ k.0 = k.1 ∙ append_assoc given (p ∷ []) k.0 in (
       ap (λ ps. status_of_packets (first_unserved 0 ps) (pcap fed).end) packets ∙ ap (λ o. status_of_packets o (pcap fed).end) there,
-      queries ∙ sym (ap queries_of packets_before),
+      found ∙ sym (ap events_of packets_before),
     )
 
-query_some : (b : Bool) (o : Option Query) (q : Query) → Some q ≡ cond b o None → (b ≡ true) × (o ≡ Some q)
-query_some true o q e = (refl, sym e)
-query_some false o q e = absurd cc
+event_some : (b : Bool) (o : Option EventParts) (q : EventParts) → Some q ≡ cond b o None → (b ≡ true) × (o ≡ Some q)
+event_some true o q e = (refl, sym e)
+event_some false o q e = absurd cc
 
 -- a packet that can be compacted behind those that can
-pub follows_served : (i : Intake) (fed : List ℕ) (given : List Packet) (p : Packet) (q : Query) (before : List Query) → first_unserved 0 given ≡ None →
-    before ≡ queries_of given → StandsFor i.reader fed (given ++ p ∷ []) → i.first.items ≡ take 4 fed →
-    Some q ≡ served_query (length before) p → i.queries ≡ before ++ q ∷ [] → Follows i fed
-follows_served i fed given p q before served queries stands first some pushed =
-    let count : length before ≡ length given = ap length queries ∙ served-count 0 given served in
-    let k = query_some (nat_lt (length before) most_packets) (query_of p) q some in
+pub follows_served : (i : Intake) (fed : List ℕ) (given : List Packet) (p : Packet) (e : Event) (before : List Event) → first_unserved 0 given ≡ None →
+    map parts_of before ≡ events_of given → StandsFor i.reader fed (given ++ p ∷ []) → i.first.items ≡ take 4 fed →
+    Some (parts_of e) ≡ served_event (length before) p → i.events ≡ before ++ e ∷ [] → Follows i fed
+follows_served i fed given p e before served found stands first some pushed =
+    let count : length before ≡ length given = sym (length-map before parts_of) ∙ ap length found ∙ served-count 0 given served in
+    let k = event_some (nat_lt (length before) most_packets) (event_of p) (parts_of e) some in
     let zero_more : 0 + length given ≡ length before = omega arith in
     let here : is_served (0 + length given) p ≡ true = ap (λ n. is_served n p) zero_more ∙ sym (served_is (length before) p) ∙ ap is_some (sym some) in
     let alone : first_unserved (0 + length given) (p ∷ []) ≡ None = rw here refl in
-    let one : queries_of (p ∷ []) ≡ q ∷ [] = rw k.1 refl in
+    let one : events_of (p ∷ []) ≡ parts_of e ∷ [] = rw k.1 refl in
     record {
       given = given ++ p ∷ [];
       stands = stands;
       served = served-append 0 given (p ∷ []) served ∙ alone;
-      queries = pushed ∙ ap (λ t. t ++ q ∷ []) queries ∙ ap (λ t. queries_of given ++ t) (sym one) ∙ sym (filter_map-append query_of given (p ∷ []));
+      events = ap (λ es. map parts_of es) pushed ∙ map-append parts_of before (e ∷ []) ∙ ap (λ t. t ++ parts_of e ∷ []) found ∙ ap (λ t. events_of given ++ t) (sym one)
+      ∙ sym (filter_map-append event_of given (p ∷ []));
       first = first;
     }
 
@@ -116,24 +119,24 @@ none_of_none [] rest e = refl
 none_of_none (p ∷ ps) rest e = absurd cc
 
 -- bytes with another magic have given no packet
-none_given : (i : Intake) (fed : List ℕ) → (f : Follows i fed) → is_little_micro fed ≡ false → i.queries ≡ queries_of (pcap fed).packets
+none_given : (i : Intake) (fed : List ℕ) → (f : Follows i fed) → is_little_micro fed ≡ false → map parts_of i.events ≡ events_of (pcap fed).packets
 none_given i fed f other =
     let k = given_first i.reader fed f.given f.stands in
     let none : (pcap fed).packets ≡ [] = ap (λ (c : Capture). c.packets) (pcap-magic fed other) in
-    f.queries ∙ ap queries_of (none_of_none f.given k.0 (sym none ∙ k.1)) ∙ sym (ap queries_of none)
+    f.events ∙ ap events_of (none_of_none f.given k.0 (sym none ∙ k.1)) ∙ sym (ap events_of none)
 
 -- fewer than four bytes say nothing before the end
 pub judges_few : (i : Intake) (fed : List ℕ) → Follows i fed → length fed < 4 → Judges false i fed None
 judges_few i fed f few = (f, status_said-few fed few, none_given i fed f (has_magic-few 0xa1b2c3d4 fed few))
 
--- bytes of another format have no packet, and the bytes before offset 0 have no query
+-- bytes of another format have no packet, and the bytes before offset 0 have no event
 pub judges_other : (told_end : Bool) (i : Intake) (fed : List ℕ) → Follows i fed → 4 ≤ length fed → is_other_format fed ≡ true →
     Judges told_end i fed (Some (status.NotYet 0))
 judges_other told_end i fed f four other =
     let little : is_little_micro fed ≡ false = other-not_read fed four other in
     let same : (pcap fed).packets ≡ (pcap []).packets = ap (λ (c : Capture). c.packets) (pcap-magic fed little ∙ sym pcap-none) in
-    (status_said-other told_end fed four other, none_given i fed f little ∙ ap queries_of same)
+    (status_said-other told_end fed four other, none_given i fed f little ∙ ap events_of same)
 
--- no byte has no query
-pub none_queries : (i : Intake) → Follows i [] → i.queries ≡ events []
-none_queries i f = none_given i [] f (has_magic-few 0xa1b2c3d4 [] (omega arith))
+-- no byte has no event
+pub none_events : (i : Intake) → Follows i [] → map parts_of i.events ≡ events []
+none_events i f = none_given i [] f (has_magic-few 0xa1b2c3d4 [] (omega arith))

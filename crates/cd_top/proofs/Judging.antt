@@ -10,7 +10,7 @@ use Rattle.cd_packet.proofs.Growing.{has_magic-append, has_magic-many, has_magic
 use Rattle.cd_packet.specs.declared.capture.EndState.{EndState}
 use Rattle.cd_packet.specs.declared.capture.EndState.TheVariants.{Whole, Cut, Bad}
 use Rattle.cd_packet.specs.declared.packet.Packet.{Packet}
-use Rattle.cd_top.specs.Events.{query_of, queries_of}
+use Rattle.cd_top.specs.Events.{event_of, events_of}
 use Rattle.cd_top.specs.Endings.{is_other_format, is_served, first_unserved, status_of_end, status_of_packets, status_of_capture, status_said, most_packets}
 use Rattle.cd_top.specs.Gathered.{IsEnding}
 use Rattle.cd_top.specs.Run.{IsStopped}
@@ -31,7 +31,7 @@ pub served-few : (before : ℕ) (ps : List Packet) → before ≤ most_packets �
 served-few before [] small none = omega arith
 served-few before (p ∷ ps) small none =
     let k = none_chosen (is_served before p) (first_unserved (before + 1) ps) p.at none in
-    let lt : before < most_packets = ltb-true before most_packets (served_few (nat_lt before most_packets) (is_some (query_of p)) k.0) in
+    let lt : before < most_packets = ltb-true before most_packets (served_few (nat_lt before most_packets) (is_some (event_of p)) k.0) in
     let m = served-few (before + 1) ps (omega arith) k.1 in
     omega arith
 
@@ -59,12 +59,12 @@ both_told : (b c : Bool) → (b && c) ≡ true → c ≡ true
 both_told true c e = e
 both_told false c e = absurd cc
 
--- each packet that can be compacted has one query
-pub served-count : (before : ℕ) (ps : List Packet) → first_unserved before ps ≡ None → length (queries_of ps) ≡ length ps
+-- each packet that can be compacted has one event
+pub served-count : (before : ℕ) (ps : List Packet) → first_unserved before ps ≡ None → length (events_of ps) ≡ length ps
 served-count before [] none = refl
 served-count before (p ∷ ps) none =
     let k = none_chosen (is_served before p) (first_unserved (before + 1) ps) p.at none in
-    let q = some_told (query_of p) (both_told (nat_lt before most_packets) (is_some (query_of p)) k.0) in
+    let q = some_told (event_of p) (both_told (nat_lt before most_packets) (is_some (event_of p)) k.0) in
     let m = served-count (before + 1) ps k.1 in
     rw q.1 (ap (λ n. suc n) m)
 

@@ -1,5 +1,5 @@
 -- The state between two reads: what was taken says nothing yet of how the run ends.
-use Rattle.std.proofs.Common.{◌≡◌, ℕ, ◌+◌, ◌-◌, ◌<◌, ◌≤◌, Bool, true, false, List, [], ◌++◌, length, Option, Some, None, Result, Ok, Err, refl, ap, sym, ◌∙◌, arith, inl, inr, length-append}
+use Rattle.std.proofs.Common.{◌≡◌, ℕ, ◌+◌, ◌-◌, ◌<◌, ◌≤◌, Bool, true, false, List, [], ◌++◌, length, map, Option, Some, None, Result, Ok, Err, refl, ap, sym, ◌∙◌, arith, inl, inr, length-append}
 use Rattle.std.specs.Prelude.{unwrap_or, OnErr, ◌||◌, ◌&&◌, nat_eq, zero, suc}
 use Rattle.std.proofs.lemmas.Bool.{cases_lt, cases_Bool, false≢true}
 use Rattle.std.proofs.lemmas.List.{append-nil}
@@ -12,12 +12,13 @@ use Rattle.cd_top.specs.Gathered.{Follows, Judges, Gathers, IsEnding}
 use Rattle.cd_top.specs.Endings.{is_other_format, status_said, ended_by, used_bytes, most_taken, StopsReading}
 use Rattle.cd_top.specs.declared.gathering.Gathered.{Gathered}
 use Rattle.cd_top.specs.declared.intake.Intake.{Intake}
-use Rattle.cd_top.specs.declared.query.Query.{Query}
+use Rattle.cd_ident.specs.declared.event.Event.{Event}
+use Rattle.cd_ident.specs.Keys.{parts_of}
 use Rattle.cd_top.specs.declared.status.Status.{Status}
 use Rattle.cd_top.specs.declared.status.Status.TheVariants as status
 use Rattle.cd_top.proofs.Judging.{served-few, status_said-none, status_said-other, status_said-read, unsaid-capture, IsNoEnd, status_said-no_end, status_said-ending}
 use Rattle.cd_ports.specs.Counter.{next_count}
-use Rattle.cd_top.proofs.Following.{none_queries}
+use Rattle.cd_top.proofs.Following.{none_events}
 
 -- bytes that say nothing are few
 pub unsaid-few : (bytes : List ℕ) → status_said false bytes ≡ None → length bytes < most_taken
@@ -33,13 +34,13 @@ unsaid-few bytes none =
       ]
     ]
 
--- Some bytes were taken and say nothing yet. Their queries are there, and so many more bytes may be taken.
+-- Some bytes were taken and say nothing yet. Their events are there, and so many more bytes may be taken.
 pub record Awaits (old now : Option (List ℕ)) (intake : Intake) (room : ℕ) : Type 0 where
   pub taken : List ℕ
   pub took : Consumes old now taken
   pub follows : Follows intake taken
   pub unsaid : status_said false taken ≡ None
-  pub queries : intake.queries ≡ events taken
+  pub events : map parts_of intake.events ≡ events taken
   pub count : length taken + room ≡ most_taken
 
 pub awaits_room : (old now : Option (List ℕ)) (intake : Intake) (room : ℕ) → Awaits old now intake room → 0 < room
@@ -63,7 +64,7 @@ awaits_none left intake f = record {
   took = consumes_none left left (keeps_same left);
   follows = f;
   unsaid = status_said-none;
-  queries = none_queries intake f;
+  events = none_events intake f;
   count = omega arith;
 }
 
@@ -75,7 +76,7 @@ none_stops = record { before = []; last = []; split = refl; piece = omega arith;
 pub took_none : (left : Option (List ℕ)) → (taken : List ℕ) × Consumes left left taken × StopsReading taken
 took_none left = ([], consumes_none left left (keeps_same left), none_stops)
 
--- what a run took that ends with this status and these queries
+-- what a run took that ends with this status and these events
 abbrev pub Ends : Option (List ℕ) → Option (List ℕ) → Bool → Gathered → Type 0
 Ends old now told_end g = (taken : List ℕ) × Consumes old now taken × (Gathers taken told_end g × StopsReading taken)
 
@@ -121,24 +122,24 @@ ended_as_told t bytes s e = rw e refl
 
 -- the bytes say how the run ends
 pub ends_said : (old now : Option (List ℕ)) (i j : Intake) (room : ℕ) (told_end : Bool) (s : Status) → Taken old now i room →
-    ((fed : List ℕ) → Follows i fed → Judges told_end j fed (Some s)) → Ends old now told_end (record { status = s; queries = j.queries })
+    ((fed : List ℕ) → Follows i fed → Judges told_end j fed (Some s)) → Ends old now told_end (record { status = s; events = j.events })
 ends_said old now i j room told_end s h judges =
     let k = judges h.taken h.follows in
-    (h.taken, h.took, (record { status = ended_as_told told_end h.taken s k.0; queries = k.1 }, h.stops))
+    (h.taken, h.took, (record { status = ended_as_told told_end h.taken s k.0; events = k.1 }, h.stops))
 
 -- the bytes say nothing at their end
 pub ends_done : (old now : Option (List ℕ)) (i j : Intake) (room : ℕ) → Taken old now i room →
-    ((fed : List ℕ) → Follows i fed → Judges true j fed None) → Ends old now true (record { status = status.Done; queries = j.queries })
+    ((fed : List ℕ) → Follows i fed → Judges true j fed None) → Ends old now true (record { status = status.Done; events = j.events })
 ends_done old now i j room h judges =
     let k = judges h.taken h.follows in
-    (h.taken, h.took, (record { status = sym (ap (λ o. unwrap_or o status.Done) k.1); queries = k.2 }, h.stops))
+    (h.taken, h.took, (record { status = sym (ap (λ o. unwrap_or o status.Done) k.1); events = k.2 }, h.stops))
 
 -- the source failed, and the bytes say nothing yet
-pub ends_failed : (old a b : Option (List ℕ)) (i : Intake) (room : ℕ) → Awaits old a i room → Keeps a b → Ends old b false (record { status = status.ReadFault; queries = i.queries })
+pub ends_failed : (old a b : Option (List ℕ)) (i : Intake) (room : ℕ) → Awaits old a i room → Keeps a b → Ends old b false (record { status = status.ReadFault; events = i.events })
 ends_failed old a b i room h kept = (
   h.taken,
   consumes_kept old a b h.taken h.took kept,
-  (record { status = sym (ap (λ o. unwrap_or o status.ReadFault) h.unsaid); queries = h.queries }, awaits_stops old a i room h),
+  (record { status = sym (ap (λ o. unwrap_or o status.ReadFault) h.unsaid); events = h.events }, awaits_stops old a i room h),
 )
 
 -- the bytes say nothing yet
@@ -146,7 +147,7 @@ pub awaits_more : (old now : Option (List ℕ)) (i j : Intake) (room : ℕ) → 
     ((fed : List ℕ) → Follows i fed → Judges false j fed None) → Awaits old now j room
 awaits_more old now i j room h judges =
     let k = judges h.taken h.follows in
-    record { taken = h.taken; took = h.took; follows = k.0; unsaid = k.1; queries = k.2; count = h.count }
+    record { taken = h.taken; took = h.took; follows = k.0; unsaid = k.1; events = k.2; count = h.count }
 
 -- what the bytes say is an end of the reading, other than that of the source
 pub said_ending : (told_end : Bool) (old now : Option (List ℕ)) (i j : Intake) (room : ℕ) (s : Status) → Taken old now i room →
@@ -165,16 +166,16 @@ pub on_err : {T E P : Type 0} (r : Result T E) → P → OnErr r P
 on_err (Ok x) p = tt
 on_err (Err e) p = p
 
--- the same end, of the status and the queries that were handed out
-pub ends_at : (old now : Option (List ℕ)) (t u : Bool) (s : Status) (qs : List Query) (g : Gathered) → t ≡ u → g.status ≡ s → g.queries ≡ qs →
-    Ends old now u (record { status = s; queries = qs }) → Ends old now t g
-ends_at old now t u s qs g told same_status same_queries h = (
+-- the same end, of the status and the events that were handed out
+pub ends_at : (old now : Option (List ℕ)) (t u : Bool) (s : Status) (es : List Event) (g : Gathered) → t ≡ u → g.status ≡ s → g.events ≡ es →
+    Ends old now u (record { status = s; events = es }) → Ends old now t g
+ends_at old now t u s es g told same_status same_events h = (
   h.0,
   h.1,
   (
     record {
       status = same_status ∙ h.2.0.status ∙ ap (λ v. ended_by h.0 v) (sym told);
-      queries = same_queries ∙ h.2.0.queries ∙ ap (λ v. events (used_bytes v h.0)) (sym same_status);
+      events = ap (λ vs. map parts_of vs) same_events ∙ h.2.0.events ∙ ap (λ v. events (used_bytes v h.0)) (sym same_status);
     },
     h.2.1,
   ),

@@ -6,7 +6,7 @@ use Rattle.cd_packet.specs.declared.packet.Packet.{Packet}
 use Rattle.cd_packet.specs.Magic.{has_magic}
 use Rattle.cd_packet.specs.Capture.{Capture}
 use Rattle.cd_packet.specs.Pcap.{pcap}
-use Rattle.cd_top.specs.Events.{query_of}
+use Rattle.cd_top.specs.Events.{event_of}
 use Rattle.cd_top.specs.declared.status.Status.{Status}
 use Rattle.cd_top.specs.declared.status.Status.TheVariants as status
 
@@ -22,7 +22,7 @@ most_packets = 10000
 
 -- whether a packet before which so many others stand can be compacted
 abbrev pub is_served : ℕ → Packet → Bool
-is_served before p = nat_lt before most_packets && is_some (query_of p)
+is_served before p = nat_lt before most_packets && is_some (event_of p)
 
 -- where the first packet stands that can't be compacted, where so many others stand before these
 abbrev pub first_unserved : ℕ → List Packet → Option ℕ

@@ -10,7 +10,7 @@ ghost use Rattle.cd_top.specs.Pieces.{is_end, IsWithin};
 
 use crate::Status;
 use crate::intake::Intake;
-use crate::query::Query;
+use cd_ident::Event;
 use cd_name::List;
 use cd_ports::{Failed, Source};
 use std::alloc::{AllocError, Global};
@@ -26,8 +26,8 @@ const MOST_TAKEN: u64 = 2_621_862_184;
 pub struct Gathered {
     /// `Done`, `BadCapture`, `ReadFault` or `NotYet`.
     pub status: Status,
-    /// The queries that stand before the place that ended the run.
-    pub queries: List<Query>,
+    /// The events that stand before the place that ended the run.
+    pub events: List<Event>,
 }
 
 // A buffer of some bytes.
@@ -74,14 +74,14 @@ fn read_front<S: Source>(src: &mut S, piece: &mut Vec<u8>, most: u64) -> Result<
     read_slice(src, piece.as_mut_slice(), most)
 }
 
-// The gathered queries under a status.
+// The gathered events under a status.
 fn ended_with(intake: Intake, status: Status) -> Gathered
     ensures status { result.status ≡ status }
-    ensures queries { result.queries ≡ intake.queries }
+    ensures events { result.events ≡ intake.events }
 {
     Gathered {
         status,
-        queries: intake.into_queries(),
+        events: intake.into_events(),
     }
 }
 

@@ -1,11 +1,14 @@
-//! Takes the bytes of a capture, and keeps the queries of its packets.
+//! Takes the bytes of a capture, and keeps the events of its packets.
 
-ghost use Rattle.std.specs.Prelude.{◌≡◌, ℕ, ◌+◌, ◌≤◌, ◌^◌, ◌++◌, [], List, length, take, IfOk, OnOk, OnErr, IsTrue, ◌↔◌};
-ghost use Rattle.cd_top.specs.Gathered.{Follows, Drains, Judges, served_query};
+ghost use Rattle.std.specs.Prelude.{◌≡◌, ℕ, ◌+◌, ◌≤◌, ◌^◌, ◌++◌, [], List, length, map, take, IfOk, OnOk, OnErr, IsTrue, ◌↔◌};
+ghost use Rattle.std.specs.Option.{option_map};
+ghost use Rattle.cd_ident.specs.Keys.{parts_of};
+ghost use Rattle.cd_top.specs.Gathered.{Follows, Drains, Judges, served_event};
 ghost use Rattle.cd_top.specs.Endings.{is_other_format, status_of_end};
 
 use crate::Status;
-use crate::query::{Query, query_of};
+use crate::event::event_of;
+use cd_ident::Event;
 use cd_name::List;
 use cd_packet::{EndState, FeedFault, Packet, has_magic};
 use cd_pcap::PcapReader;
@@ -33,8 +36,9 @@ pub struct Intake {
     reader: PcapReader,
     /// The first four bytes, or as many as there are.
     first: Vec<u8>,
-    /// The queries of the packets read so far, in their order.
-    queries: List<Query>,
+    /// The events of the packets read so far, in their order.
+    events: List<Event>,
+    alloc: Global,
 }
 
 // Whether these first bytes are those of a format that is not read yet.
@@ -67,21 +71,22 @@ impl Intake {
         Intake {
             reader: PcapReader::new(alloc),
             first: Vec::new(alloc),
-            queries: List::from_vec(Vec::new(alloc)),
+            events: List::from_vec(Vec::new(alloc)),
+            alloc,
         }
     }
 
-    /// The queries of the packets read so far, in their order.
-    pub fn into_queries(self) -> List<Query>
-        ensures { result ≡ self.queries }
+    /// The events of the packets read so far, in their order.
+    pub fn into_events(self) -> List<Event>
+        ensures { result ≡ self.events }
     {
-        self.queries
+        self.events
     }
 
     // Keeps the first bytes of the capture.
     fn keep_first(&mut self, piece: &[u8]) -> Result<(), AllocError>
         ensures first { (fed : List ℕ) → self.old.first.items ≡ take 4 fed → OnOk result (self.new.first.items ≡ take 4 (fed ++ piece.now)) }
-        ensures same { OnOk result ((self.new.reader ≡ self.old.reader) × (self.new.queries ≡ self.old.queries)) }
+        ensures same { OnOk result ((self.new.reader ≡ self.old.reader) × (self.new.events ≡ self.old.events)) }
     {
         let missing = MAGIC_SIZE.saturating_sub(self.first.len());
         let count = missing.min(piece.len());
@@ -104,14 +109,14 @@ impl Intake {
         }
     }
 
-    // The query of the next packet, where it can be compacted.
-    fn served(&self, packet: &Packet) -> Option<Query>
-        ensures { result ≡ served_query (length self.now.queries) packet.now }
+    // The event of the next packet, where it can be compacted.
+    fn served(&self, packet: &Packet) -> Result<Option<Event>, AllocError>
+        ensures { IfOk result (λ e. option_map parts_of e ≡ served_event (length self.now.events) packet.now) }
     {
-        if self.queries.as_slice().len() < MOST_PACKETS {
-            query_of(packet)
+        if self.events.as_slice().len() < MOST_PACKETS {
+            event_of(self.alloc, packet)
         } else {
-            None
+            Ok(None)
         }
     }
 
@@ -124,13 +129,16 @@ impl Intake {
             let next = self.reader.next()?;
             match next {
                 None => return Ok(status_of(self.reader.end())),
-                Some(packet) => match self.served(&packet) {
-                    None => return Ok(Some(Status::NotYet { at: packet.at })),
-                    Some(query) => match self.queries.push(query) {
-                        Ok(()) => {}
-                        Err(_) => return Err(AllocError),
-                    },
-                },
+                Some(packet) => {
+                    let served = self.served(&packet)?;
+                    match served {
+                        None => return Ok(Some(Status::NotYet { at: packet.at })),
+                        Some(event) => match self.events.push(event) {
+                            Ok(()) => {}
+                            Err(_) => return Err(AllocError),
+                        },
+                    }
+                }
             }
         }
     }

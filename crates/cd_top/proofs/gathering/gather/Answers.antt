@@ -32,7 +32,7 @@ returns-in-Err-clause-calls g c =
 pub returns-in-Err-clause-ok : goal.returns-in-Err-clause-ok
 returns-in-Err-clause-ok g c =
     let e = c.ended_with.ensures in
-    ends_at _ _ _ false status.ReadFault c.pieces.intake.queries _ c.in-Err.ensures.ended e.status e.queries
+    ends_at _ _ _ false status.ReadFault c.pieces.intake.events _ c.in-Err.ensures.ended e.status e.events
     (ends_failed _ _ _ c.pieces.intake _ c.pieces.invariant.awaits c.in-Err.ensures.bytes)
 
 pub returns-in_err-feed-clause-calls : goal.returns-in_err-feed-clause-calls
@@ -84,7 +84,7 @@ returns-in-Some-clause-ok g c =
     taken_piece _ _ _ _ _ _ n (take n c.deref.result.now) c.pieces.invariant.awaits bytes size c.in-Ok.ensures.within.0 small c.in_ok-feed.ensures.history in
     let judges = rw c.in-Some.is at c.in_ok-said.ensures.history in
     let e = c.ended_with-in-Some.ensures in
-    ends_at _ _ _ _ c.in-Some.status c.judge.new.self.queries _ c.in-Ok.ensures.ended e.status e.queries
+    ends_at _ _ _ _ c.in-Some.status c.judge.new.self.events _ c.in-Ok.ensures.ended e.status e.events
     (ends_said _ _ _ c.judge.new.self _ _ c.in-Some.status t judges)
 
 pub returns-in-Some-clause-read_fault : goal.returns-in-Some-clause-read_fault
@@ -136,7 +136,7 @@ returns-then-told_end-clause-ok g c =
     let none : nat_eq n 0 ≡ true = eq-eqb n 0 c.if-told_end.true in
     let judges = rw (c.in-None.is, none) at c.in_ok-said.ensures.history in
     let e = c.ended_with-then-told_end.ensures in
-    ends_at _ _ _ true status.Done c.judge.new.self.queries _ (c.in-Ok.ensures.ended ∙ none) e.status e.queries
+    ends_at _ _ _ true status.Done c.judge.new.self.events _ (c.in-Ok.ensures.ended ∙ none) e.status e.events
     (ends_done _ _ _ c.judge.new.self _ t judges)
 
 pub pieces-preserved : goal.pieces-preserved
