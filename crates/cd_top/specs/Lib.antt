@@ -4,6 +4,7 @@ pub mod Tables
 pub mod Interning
 pub mod Tree
 pub mod File
+pub mod Integers
 pub mod Parts
 pub mod Words
 pub mod Endings

@@ -1,6 +1,8 @@
 -- A tree of CBOR values and its one canonical spelling: the shortest heads, and definite lengths but for the array of
 -- blocks (RFC 8949 3 and 4.2.1).
-use Rattle.std.specs.Prelude.{ℕ, ◌+◌, ◌*◌, ◌/◌, nat_lt, List, [], ◌∷◌, ◌++◌, length, if◌then◌else◌}
+use Rattle.std.specs.Prelude.{ℕ, ◌+◌, ◌*◌, ◌/◌, nat_lt, List, [], ◌∷◌, ◌++◌, length, Option, if◌then◌else◌}
+use Rattle.std.specs.List.{filter_map}
+use Rattle.std.specs.Option.{option_map}
 use Rattle.std.specs.Int.{w16, w32, w64, to_be_bytes}
 
 -- a head of this major type, as short as it can be
@@ -15,6 +17,8 @@ head_of major n =
 -- a CBOR value
 pub data Tree : Type 0 where
   unsigned : ℕ → Tree
+  -- the number -1 - n
+  negative : ℕ → Tree
   bytes : List ℕ → Tree
   text : List ℕ → Tree
   -- an array of these elements
@@ -32,6 +36,7 @@ abbrev pub count_of : Tree → ℕ
 count_of (more t ts) = 1 + count_of ts
 count_of none = 0
 count_of (unsigned n) = 0
+count_of (negative n) = 0
 count_of (bytes bs) = 0
 count_of (text bs) = 0
 count_of (array ts) = 0
@@ -41,6 +46,7 @@ count_of (indefinite_array ts) = 0
 -- the bytes of a value
 abbrev pub spelling : Tree → List ℕ
 spelling (unsigned n) = head_of 0 n
+spelling (negative n) = head_of 1 n
 spelling (bytes bs) = head_of 2 (length bs) ++ bs
 spelling (text bs) = head_of 3 (length bs) ++ bs
 spelling (array ts) = head_of 4 (count_of ts) ++ spelling ts
@@ -63,3 +69,11 @@ entries (e ∷ es) = more (unsigned e.0) (more e.1 (entries es))
 abbrev pub fields : List (ℕ × ℕ) → Tree
 fields [] = none
 fields (e ∷ es) = more (unsigned e.0) (more (unsigned e.1) (fields es))
+
+-- the entry of a value that is there
+abbrev pub entry_of : ℕ × Option Tree → Option (ℕ × Tree)
+entry_of e = option_map (λ t. (e.0, t)) e.1
+
+-- the entries whose values are there
+unfoldable pub present : List (ℕ × Option Tree) → List (ℕ × Tree)
+present es = filter_map entry_of es

@@ -1,18 +1,29 @@
 //! Spells the parts of a CBOR value, each with the shortest head (RFC 8949 3 and 4.2.1). An `Err` says that no memory was
 //! found.
 
-ghost use Rattle.std.specs.Prelude.{◌≡◌, ◌<◌, ◌∷◌, ◌++◌, length, OnOk};
-ghost use Rattle.cd_top.specs.Tree.{head_of, cbor_map, fields, spelling};
+ghost use Rattle.std.specs.Prelude.{◌≡◌, ◌<◌, [], ◌∷◌, ◌++◌, length, map, OnOk};
+ghost use Rattle.cd_top.specs.Integers.{integer_tree, integer_entry};
+ghost use Rattle.cd_top.specs.Tree.{head_of, cbor_map, entries, fields, present, spelling};
 
 use std::alloc::AllocError;
 
 const UNSIGNED: u8 = 0;
+
+const NEGATIVE: u8 = 1;
 
 const BYTES: u8 = 2;
 
 const ARRAY: u8 = 4;
 
 const MAP: u8 = 5;
+
+/// An integer (RFC 8949 3.1).
+#[derive(Clone, Copy, Debug)]
+pub enum Integer {
+    Unsigned(u64),
+    /// The number -1 - n.
+    Negative(u64),
+}
 
 // Appends the first byte of a head, and the bytes of its number.
 fn push_long(out: &mut Vec<u8>, first: u8, number: &[u8]) -> Result<(), AllocError>
@@ -82,6 +93,65 @@ pub fn push_fields(out: &mut Vec<u8>, pairs: &[(u64, u64)]) -> Result<(), AllocE
     push_map(out, pairs.len() as u64)?;
     for pair in pairs {
         push_field(out, pair.0, pair.1)?;
+    }
+    Ok(())
+}
+
+/// Appends an integer.
+pub fn push_integer(out: &mut Vec<u8>, n: Integer) -> Result<(), AllocError>
+    ensures { OnOk result (out.new.items ≡ out.old.items ++ spelling (integer_tree n)) }
+{
+    match n {
+        Integer::Unsigned(n) => push_head(out, UNSIGNED, n),
+        Integer::Negative(n) => push_head(out, NEGATIVE, n),
+    }
+}
+
+// Appends a key and its integer, where it is there.
+fn push_entry(out: &mut Vec<u8>, entry: (u64, Option<Integer>)) -> Result<(), AllocError>
+    ensures { OnOk result (out.new.items
+        ≡ out.old.items ++ spelling (entries (present (integer_entry entry ∷ [])))) }
+{
+    let (key, value) = entry;
+    match value {
+        Some(n) => {
+            push_unsigned(out, key)?;
+            push_integer(out, n)?;
+            Ok(())
+        }
+        None => Ok(()),
+    }
+}
+
+// 1 where the integer is there, else 0.
+fn entry_count(entry: (u64, Option<Integer>)) -> usize
+    ensures { result ≡ length (present (integer_entry entry ∷ [])) }
+{
+    match entry.1 {
+        Some(_) => 1,
+        None => 0,
+    }
+}
+
+// How many integers are there.
+fn present_count(pairs: &[(u64, Option<Integer>)]) -> u64
+    ensures { result ≡ length (present (map integer_entry pairs.now)) }
+{
+    let mut count: usize = 0;
+    'pairs: for pair in pairs {
+        count += entry_count(*pair);
+    }
+    count as u64
+}
+
+/// Appends a map of the keys whose integers are there, and these.
+pub fn push_present(out: &mut Vec<u8>, pairs: &[(u64, Option<Integer>)]) -> Result<(), AllocError>
+    ensures { OnOk result (out.new.items
+        ≡ out.old.items ++ spelling (cbor_map (entries (present (map integer_entry pairs.now))))) }
+{
+    push_map(out, present_count(pairs))?;
+    'pairs: for pair in pairs {
+        push_entry(out, *pair)?;
     }
     Ok(())
 }
