@@ -8,7 +8,7 @@ use Rattle.std.proofs.lemmas.Slice.Eq.{bytes_eq-Decides}
 use Rattle.std.proofs.lemmas.Bool.{and_parts}
 use Rattle.std.proofs.lemmas.Bool.Decides.{nat_tests}
 use Rattle.std.specs.List.{flat_map}
-use Rattle.cd_top.specs.Kept.{KeptSig, KeptItem, kept_item, kept_block, earliest_tick, stamp_of, statistics}
+use Rattle.cd_top.specs.Kept.{KeptItem, kept_item, kept_block, earliest_tick, stamp_of, statistics}
 use Rattle.cd_top.specs.Tables.{table_of, place_in, same_address, same_sig, indexed_block, indexed_sig, indexed_item}
 use Rattle.cd_top.specs.Interning.{put, placed_sig, no_tables, put_item}
 use Rattle.cd_top.specs.declared.block.Block.{Block}
@@ -16,7 +16,8 @@ use Rattle.cd_top.specs.declared.block.BlockItem.{BlockItem}
 use Rattle.cd_top.specs.declared.block.Stamp.{Stamp}
 use Rattle.cd_top.specs.declared.block.Stats.{Stats}
 use Rattle.cd_top.specs.declared.intern.Tables.{Tables}
-use Rattle.cd_top.specs.declared.query.Query.{Query}
+use Rattle.cd_top.specs.declared.exchange.Exchange.{Exchange}
+use Rattle.cd_top.specs.declared.intern.Sig.{Sig}
 use Rattle.cd_top.proofs.Distinct.{fold_put}
 
 -- where a value is found in a list, it is found there in a longer one
@@ -63,18 +64,18 @@ same_address-itself : (a : List ℕ) → same_address a a ≡ true
 same_address-itself a = (bytes_eq-Decides a a).1 refl
 
 -- a signature is the same as itself
-same_sig-itself : (s : KeptSig) → same_sig s s ≡ true
+same_sig-itself : (s : Sig) → same_sig s s ≡ true
 same_sig-itself s = grind (arith, nat_tests, same_address-itself s.server_address)
 
 -- equal signatures are the same in each field
-same_sig-equal : (a b : KeptSig) → same_sig a b ≡ true → a ≡ b
+same_sig-equal : (a b : Sig) → same_sig a b ≡ true → a ≡ b
 same_sig-equal a b h =
     let address : same_address a.server_address b.server_address ≡ true → a.server_address ≡ b.server_address =
     (bytes_eq-Decides a.server_address b.server_address).0 in
     grind (arith, nat_tests, and_parts)
 
 -- the test of signatures says whether they are equal
-pub same_sig-Decides : (a b : KeptSig) → Decides (same_sig a b) (a ≡ b)
+pub same_sig-Decides : (a b : Sig) → Decides (same_sig a b) (a ≡ b)
 same_sig-Decides a b = (same_sig-equal a b, λ e. ap (same_sig a) (sym e) ∙ same_sig-itself a)
 
 -- the addresses that these items use, in order
@@ -82,7 +83,7 @@ abbrev addresses_of : List KeptItem → List (List ℕ)
 addresses_of items = flat_map (λ i. i.client_address ∷ i.signature.server_address ∷ []) items
 
 -- the signatures that these items use, in order
-abbrev sigs_of : List KeptItem → List KeptSig
+abbrev sigs_of : List KeptItem → List Sig
 sigs_of items = map (λ i. i.signature) items
 
 -- the table of addresses after these items
@@ -90,7 +91,7 @@ abbrev last_addresses : Tables → List KeptItem → List (List ℕ)
 last_addresses t items = fold (put same_address) t.addresses (addresses_of items)
 
 -- the table of signatures after these items
-abbrev last_sigs : Tables → List KeptItem → List KeptSig
+abbrev last_sigs : Tables → List KeptItem → List Sig
 last_sigs t items = fold (put same_sig) t.signatures (sigs_of items)
 
 -- the addresses after these items
@@ -114,7 +115,9 @@ placed_item client signature i = record {
   transaction_id = i.transaction_id;
   signature = signature;
   client_hoplimit = i.client_hoplimit;
+  response_delay = i.response_delay;
   query_size = i.query_size;
+  response_size = i.response_size;
 }
 
 -- an item's places as it is put are those in the last tables
@@ -141,7 +144,7 @@ unfolding put_item
 block_signatures-put t i is h =
     let last : List (List ℕ) = last_addresses t (i ∷ is) in
     let with_client : List (List ℕ) = put same_address t.addresses i.client_address in
-    let s : KeptSig = i.signature in
+    let s : Sig = i.signature in
     let place = place_in-fold same_address with_client (addresses_of is) s.server_address (same_address-itself s.server_address) in
     elim (is_some (position (same_sig s) t.signatures)) as (λ b. cond b t.block_signatures (t.block_signatures ++ placed_sig (place_in same_address with_client s.server_address) s ∷ []) ≡ map (indexed_sig last) (cond b t.signatures (t.signatures ++ s ∷ []))) [
       | true ↦ h
@@ -168,7 +171,7 @@ block_with earliest stats t = record {
 }
 
 -- a block whose values have their places in these tables
-abbrev placed_block : Stamp → Stats → List KeptItem → List (List ℕ) → List KeptSig → Block
+abbrev placed_block : Stamp → Stats → List KeptItem → List (List ℕ) → List Sig → Block
 placed_block earliest stats items addresses sigs = record {
   earliest = earliest;
   stats = stats;
@@ -191,16 +194,16 @@ block_with-fold earliest stats items =
     ∙ ap (λ a. placed_block earliest stats items a (last_sigs no_tables items)) (fold_put same_address bytes_eq-Decides (addresses_of items))
     ∙ ap (λ s. placed_block earliest stats items (table_of same_address (addresses_of items)) s) (fold_put same_sig same_sig-Decides (sigs_of items))
 
--- the tables grown query by query, with what else stands in the block
-pub block_with-queries : (queries : List Query) (count earliest : ℕ) (stamp : Stamp) (stats : Stats) (t : Tables) → length queries ≤ count → earliest ≡ earliest_tick queries → stamp ≡ stamp_of earliest → stats ≡ statistics queries → t ≡ fold put_item no_tables (map (kept_item earliest) (take count queries)) → record { earliest = stamp; stats = stats; items = t.items; ip_address = t.addresses; qr_sig = t.block_signatures } ≡ indexed_block (kept_block queries)
-block_with-queries queries count earliest stamp stats t all least stamped counted grown =
-    let whole : take count queries ≡ queries = take_all count queries all in
-    let items : List KeptItem = map (kept_item (earliest_tick queries)) queries in
-    let built = block_with-fold (stamp_of (earliest_tick queries)) (statistics queries) items in
+-- the tables grown exchange by exchange, with what else stands in the block
+pub block_with-exchanges : (xs : List Exchange) (processed count earliest : ℕ) (stamp : Stamp) (stats : Stats) (t : Tables) → length xs ≤ count → earliest ≡ earliest_tick xs → stamp ≡ stamp_of earliest → stats ≡ statistics processed xs → t ≡ fold put_item no_tables (map (kept_item earliest) (take count xs)) → record { earliest = stamp; stats = stats; items = t.items; ip_address = t.addresses; qr_sig = t.block_signatures } ≡ indexed_block (kept_block processed xs)
+block_with-exchanges xs processed count earliest stamp stats t all least stamped counted grown =
+    let whole : take count xs ≡ xs = take_all count xs all in
+    let items : List KeptItem = map (kept_item (earliest_tick xs)) xs in
+    let built = block_with-fold (stamp_of (earliest_tick xs)) (statistics processed xs) items in
     let tables : t ≡ fold put_item no_tables items =
-    grown ∙ ap (λ e. fold put_item no_tables (map (kept_item e) (take count queries))) least
-    ∙ ap (λ qs. fold put_item no_tables (map (kept_item (earliest_tick queries)) qs)) whole in
+    grown ∙ ap (λ e. fold put_item no_tables (map (kept_item e) (take count xs))) least
+    ∙ ap (λ ys. fold put_item no_tables (map (kept_item (earliest_tick xs)) ys)) whole in
     ap (λ x. block_with x stats t) (stamped ∙ ap stamp_of least)
-    ∙ ap (λ x. block_with (stamp_of (earliest_tick queries)) x t) counted
-    ∙ ap (λ x. block_with (stamp_of (earliest_tick queries)) (statistics queries) x) tables
+    ∙ ap (λ x. block_with (stamp_of (earliest_tick xs)) x t) counted
+    ∙ ap (λ x. block_with (stamp_of (earliest_tick xs)) (statistics processed xs) x) tables
     ∙ built

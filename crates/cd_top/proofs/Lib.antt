@@ -9,3 +9,5 @@ pub mod Octets
 pub mod Once
 pub mod Elements
 pub mod Parts
+pub mod Partners
+pub mod OneFile

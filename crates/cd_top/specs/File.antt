@@ -1,10 +1,14 @@
 -- The C-DNS file: an array of the text "C-DNS", a preamble and the array of blocks (RFC 8618 7.3).
-use Rattle.std.specs.Prelude.{ℕ, List, [], ◌∷◌, map, codes}
+use Rattle.std.specs.Prelude.{ℕ, zero, suc, ◌-◌, List, [], ◌∷◌, length, map, codes, Some, None}
+use Rattle.std.specs.Option.{option_map}
 use Rattle.cd_top.specs.Events.{events}
 use Rattle.cd_top.specs.Kept.{kept_block}
 use Rattle.cd_top.specs.Tables.{indexed_block}
-use Rattle.cd_top.specs.Tree.{Tree, unsigned, bytes, text, array, cbor_map, indefinite_array, elements, entries, fields, spelling}
+use Rattle.cd_top.specs.Tree.{Tree, unsigned, negative, bytes, text, array, cbor_map, indefinite_array, elements, entries, fields, present, spelling}
 use Rattle.cd_top.specs.declared.query.Query.{Query}
+use Rattle.cd_top.specs.declared.exchange.Exchange.{Exchange}
+use Rattle.cd_top.specs.declared.block.Delay.{Delay}
+use Rattle.cd_top.specs.declared.block.Delay.TheVariants.{After, Before}
 use Rattle.cd_top.specs.declared.block.Block.{Block}
 use Rattle.cd_top.specs.declared.block.Stamp.{Stamp}
 use Rattle.cd_top.specs.declared.block.Stats.{Stats}
@@ -45,15 +49,24 @@ stats_tree s = cbor_map (fields (
 
 -- a signature (RFC 8618 7.3.2.3.2)
 abbrev pub sig_tree : BlockSig → Tree
-sig_tree s = cbor_map (fields (
-    (0, s.server_address) ∷ (1, s.server_port) ∷ (2, s.transport_flags) ∷ (4, s.sig_flags) ∷ (5, s.opcode)
-    ∷ (6, s.dns_flags) ∷ (7, s.query_rcode) ∷ (9, s.qd) ∷ (10, s.an) ∷ (11, s.ns) ∷ (12, s.ar) ∷ []))
+sig_tree s = cbor_map (entries (present (
+    (0, Some (unsigned s.server_address)) ∷ (1, Some (unsigned s.server_port)) ∷ (2, Some (unsigned s.transport_flags))
+    ∷ (4, Some (unsigned s.sig_flags)) ∷ (5, Some (unsigned s.opcode)) ∷ (6, Some (unsigned s.dns_flags))
+    ∷ (7, option_map unsigned s.query_rcode) ∷ (9, Some (unsigned s.qd)) ∷ (10, option_map unsigned s.an)
+    ∷ (11, option_map unsigned s.ns) ∷ (12, option_map unsigned s.ar) ∷ (16, option_map unsigned s.response_rcode) ∷ [])))
+
+-- a number of ticks, below 0 where the response is before its query
+abbrev pub delay_tree : Delay → Tree
+delay_tree (After n) = unsigned n
+delay_tree (Before n) = negative (n - 1)
 
 -- an item (RFC 8618 7.3.2.4)
 abbrev pub item_tree : BlockItem → Tree
-item_tree i = cbor_map (fields (
-    (0, i.time_offset) ∷ (1, i.client_address) ∷ (2, i.client_port) ∷ (3, i.transaction_id) ∷ (4, i.signature)
-    ∷ (5, i.client_hoplimit) ∷ (8, i.query_size) ∷ []))
+item_tree i = cbor_map (entries (present (
+    (0, Some (unsigned i.time_offset)) ∷ (1, Some (unsigned i.client_address)) ∷ (2, Some (unsigned i.client_port))
+    ∷ (3, Some (unsigned i.transaction_id)) ∷ (4, Some (unsigned i.signature)) ∷ (5, option_map unsigned i.client_hoplimit)
+    ∷ (6, option_map delay_tree i.response_delay) ∷ (8, option_map unsigned i.query_size)
+    ∷ (9, option_map unsigned i.response_size) ∷ [])))
 
 -- the tables of addresses and of signatures
 abbrev pub tables_tree : Block → Tree
@@ -69,18 +82,38 @@ abbrev pub block_tree : Block → Tree
 block_tree b = cbor_map (entries (
     (0, block_preamble b) ∷ (1, stats_tree b.stats) ∷ (2, tables_tree b) ∷ (3, array (elements (map item_tree b.items))) ∷ []))
 
--- one block of all queries, where there are any
-abbrev pub blocks_of : List Query → List Block
-blocks_of [] = []
-blocks_of (q ∷ qs) = indexed_block (kept_block (q ∷ qs)) ∷ []
+-- one block of the exchanges of so many events, where there are any
+abbrev pub blocks_of : ℕ → List Exchange → List Block
+blocks_of zero xs = []
+blocks_of (suc n) xs = indexed_block (kept_block (suc n) xs) ∷ []
 
 -- the file of these blocks
 abbrev pub file_tree : List Block → Tree
 file_tree blocks = array (elements (text (codes "C-DNS") ∷ preamble ∷ indefinite_array (elements (map block_tree blocks)) ∷ []))
 
+-- the file of the exchanges of so many events
+unfoldable pub file_of_exchanges : ℕ → List Exchange → List ℕ
+file_of_exchanges processed xs = spelling (file_tree (blocks_of processed xs))
+
+-- a query by itself
+abbrev pub alone : Query → Exchange
+alone q = record {
+  query = Some (record {
+    time = q.time;
+    client_address = q.client_address;
+    server_address = q.server_address;
+    client_port = q.client_port;
+    server_port = q.server_port;
+    hop_limit = q.hop_limit;
+    id = q.id;
+    bits = q.bits;
+  });
+  response = None;
+}
+
 -- the file of these queries
 unfoldable pub file : List Query → List ℕ
-file queries = spelling (file_tree (blocks_of queries))
+file queries = file_of_exchanges (length queries) (map alone queries)
 
 -- the file of a capture of these bytes, each packet of which can be compacted
 abbrev pub file_of : List ℕ → List ℕ

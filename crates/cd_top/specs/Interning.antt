@@ -1,8 +1,9 @@
 -- How the tables of a block grow, item by item.
 use Rattle.std.specs.Prelude.{ℕ, Bool, List, [], ◌∷◌, ◌++◌, position, is_some, if◌then◌else◌}
-use Rattle.cd_top.specs.Kept.{KeptSig, KeptItem}
+use Rattle.cd_top.specs.Kept.{KeptItem}
 use Rattle.cd_top.specs.Tables.{place_in, same_address, same_sig, indexed_item}
 use Rattle.cd_top.specs.declared.block.BlockSig.{BlockSig}
+use Rattle.cd_top.specs.declared.intern.Sig.{Sig}
 use Rattle.cd_top.specs.declared.intern.Tables.{Tables}
 
 -- a table with one more value, which it may have already
@@ -10,7 +11,7 @@ abbrev pub put : {T : Type 0} → (T → T → Bool) → List T → T → List T
 put same table value = if is_some (position (same value) table) then table else table ++ value ∷ []
 
 -- a signature whose address stands at this place
-abbrev pub placed_sig : ℕ → KeptSig → BlockSig
+abbrev pub placed_sig : ℕ → Sig → BlockSig
 placed_sig place s = record {
   server_address = place;
   server_port = s.server_port;
@@ -23,6 +24,7 @@ placed_sig place s = record {
   an = s.an;
   ns = s.ns;
   ar = s.ar;
+  response_rcode = s.response_rcode;
 }
 
 -- tables that hold nothing
@@ -30,7 +32,7 @@ abbrev pub no_tables : Tables
 no_tables = record { addresses = []; signatures = []; block_signatures = []; items = [] }
 
 -- the tables with this signature, whose address stands at this place
-abbrev pub put_sig : Tables → ℕ → KeptSig → Tables
+abbrev pub put_sig : Tables → ℕ → Sig → Tables
 put_sig t place s = record t {
   signatures = put same_sig t.signatures s;
   block_signatures =

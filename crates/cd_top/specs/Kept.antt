@@ -1,68 +1,93 @@
--- What is kept of a run of queries, field by field, with each value in its place (RFC 8618 7.3.2).
-use Rattle.std.specs.Prelude.{ℕ, ◌+◌, ◌-◌, ◌/◌, ◌%◌, min, List, [], ◌∷◌, length, map, fold}
-use Rattle.cd_top.specs.Events.{opcode_of}
-use Rattle.cd_top.specs.declared.query.Query.{Query}
+-- What is kept of some exchanges, field by field, with each value in its place (RFC 8618 7.3.2).
+use Rattle.std.specs.Prelude.{ℕ, ◌+◌, ◌-◌, ◌*◌, ◌/◌, ◌%◌, min, Bool, ◌&&◌, not, nat_le, List, [], ◌∷◌, length, map, fold, Option, Some, None, is_some, if◌then◌else◌}
+use Rattle.std.specs.List.{count_by}
+use Rattle.std.specs.Option.{option_map}
+use Rattle.cd_ident.specs.Headers.{opcode_of}
+use Rattle.cd_top.specs.Exchanges.{lead}
+use Rattle.cd_top.specs.declared.exchange.Half.{Half}
+use Rattle.cd_top.specs.declared.exchange.Exchange.{Exchange}
+use Rattle.cd_top.specs.declared.intern.Sig.{Sig}
+use Rattle.cd_top.specs.declared.block.Delay.{Delay}
+use Rattle.cd_top.specs.declared.block.Delay.TheVariants.{After, Before}
 use Rattle.cd_top.specs.declared.block.Stamp.{Stamp}
 use Rattle.cd_top.specs.declared.block.Stats.{Stats}
 
--- microseconds since 1970: nanoseconds divided by the length of a tick, rounded down
-abbrev pub tick_of : Query → ℕ
-tick_of q = q.time / 1000
+-- microseconds since 1970: nanoseconds divided by the length of a tick, rounded down (RFC 8618 7.3.1.1.1)
+abbrev pub tick_of : Half → ℕ
+tick_of h = h.time / 1000
 
--- the least of the ticks, or 0 where there is none
-abbrev pub earliest_tick : List Query → ℕ
+-- the tick of an exchange's time
+abbrev pub time_of : Exchange → ℕ
+time_of x = tick_of (lead x)
+
+-- the least of the ticks, or 0 where there is none (RFC 8618 7.3.2.1)
+abbrev pub earliest_tick : List Exchange → ℕ
 earliest_tick [] = 0
-earliest_tick (q ∷ qs) = fold min (tick_of q) (map tick_of qs)
+earliest_tick (x ∷ xs) = fold min (time_of x) (map time_of xs)
 
 -- a tick as seconds and ticks within the second
 abbrev pub stamp_of : ℕ → Stamp
 stamp_of tick = record { seconds = tick / 1000000; ticks = tick % 1000000 }
 
--- a flag of a signature: there is a query (RFC 8618 7.3.2.3.2)
-abbrev pub has_query : ℕ
-has_query = 1
+-- the flags of a signature that a query sets: 1, there is a query, and 16, it has no question (RFC 8618 7.3.2.3.2)
+abbrev pub query_flags : Option Half → ℕ
+query_flags None = 0
+query_flags (Some q) = 1 + 16
 
--- a flag of a signature: the query has no question (RFC 8618 7.3.2.3.2)
-abbrev pub query_has_no_question : ℕ
-query_has_no_question = 16
+-- the flags of a signature that a response sets: 2, there is a response, and 32, it has no question (RFC 8618 7.3.2.3.2)
+abbrev pub response_flags : Option Half → ℕ
+response_flags None = 0
+response_flags (Some r) = 2 + 32
 
--- CD, AD, Z, RA, RD, TC and AA, the bits 4 to 10 of the header's word, as the bits 0 to 6
-abbrev pub dns_flags_of : ℕ → ℕ
-dns_flags_of bits = bits / 16 % 128
+-- CD, AD, Z, RA, RD, TC and AA, the bits 4 to 10 of the header's word, as the bits 0 to 6, where there is a message (RFC 8618
+-- 7.3.2.3.2)
+abbrev pub dns_flags_of : Option Half → ℕ
+dns_flags_of None = 0
+dns_flags_of (Some h) = h.bits / 16 % 128
 
 -- the RCODE of a message
-abbrev pub rcode_of : ℕ → ℕ
-rcode_of bits = bits % 16
+abbrev pub rcode_of : Half → ℕ
+rcode_of h = h.bits % 16
 
--- a signature, with its values in their places
-pub record KeptSig : Type 0 where
-  pub server_address : List ℕ
-  pub server_port : ℕ
-  pub transport_flags : ℕ
-  pub sig_flags : ℕ
-  pub opcode : ℕ
-  pub dns_flags : ℕ
-  pub query_rcode : ℕ
-  pub qd : ℕ
-  pub an : ℕ
-  pub ns : ℕ
-  pub ar : ℕ
+-- a count of the records of a message that is a header alone
+abbrev pub record_count : Half → ℕ
+record_count h = 0
 
--- The transport is UDP over IPv4 and no bytes follow the message. The header counts nothing.
-abbrev pub kept_sig : Query → KeptSig
-kept_sig q = record {
-  server_address = q.server_address;
-  server_port = q.server_port;
+-- The signature of an exchange (RFC 8618 7.3.2.3.2). The transport is UDP over IPv4 and no bytes follow the messages, whose headers
+-- count nothing.
+abbrev pub kept_sig : Exchange → Sig
+kept_sig x = record {
+  server_address = (lead x).server_address;
+  server_port = (lead x).server_port;
   transport_flags = 0;
-  sig_flags = has_query + query_has_no_question;
-  opcode = opcode_of q.bits;
-  dns_flags = dns_flags_of q.bits;
-  query_rcode = rcode_of q.bits;
+  sig_flags = query_flags x.query + response_flags x.response;
+  opcode = opcode_of (lead x).bits;
+  dns_flags = dns_flags_of x.query + 256 * dns_flags_of x.response;
+  query_rcode = option_map rcode_of x.query;
   qd = 0;
-  an = 0;
-  ns = 0;
-  ar = 0;
+  an = option_map record_count x.query;
+  ns = option_map record_count x.query;
+  ar = option_map record_count x.query;
+  response_rcode = option_map rcode_of x.response;
 }
+
+-- the ticks from one to another
+abbrev pub delay_between : ℕ → ℕ → Delay
+delay_between from to = if nat_le from to then After (to - from) else Before (from - to)
+
+-- the ticks from a query to its response, where there are both (RFC 8618 7.3.2.4)
+abbrev pub delay_of : Option Half → Option Half → Option Delay
+delay_of (Some q) (Some r) = Some (delay_between (tick_of q) (tick_of r))
+delay_of None _ = None
+delay_of (Some q) None = None
+
+-- the bytes of a message that is a header alone
+abbrev pub size_of : Half → ℕ
+size_of h = 12
+
+-- the time to live of a packet
+abbrev pub hop_limit_of : Half → ℕ
+hop_limit_of h = h.hop_limit
 
 -- an item, with its values in their places
 pub record KeptItem : Type 0 where
@@ -70,33 +95,41 @@ pub record KeptItem : Type 0 where
   pub client_address : List ℕ
   pub client_port : ℕ
   pub transaction_id : ℕ
-  pub signature : KeptSig
-  pub client_hoplimit : ℕ
-  pub query_size : ℕ
+  pub signature : Sig
+  pub client_hoplimit : Option ℕ
+  pub response_delay : Option Delay
+  pub query_size : Option ℕ
+  pub response_size : Option ℕ
 
--- the bytes of a message that is a header alone
-abbrev pub header_size : ℕ
-header_size = 12
-
--- the item of a query, in a block whose earliest time is this tick
-abbrev pub kept_item : ℕ → Query → KeptItem
-kept_item earliest q = record {
-  time_offset = tick_of q - earliest;
-  client_address = q.client_address;
-  client_port = q.client_port;
-  transaction_id = q.id;
-  signature = kept_sig q;
-  client_hoplimit = q.hop_limit;
-  query_size = header_size;
+-- the item of an exchange, in a block whose earliest time is this tick (RFC 8618 7.3.2.4)
+abbrev pub kept_item : ℕ → Exchange → KeptItem
+kept_item earliest x = record {
+  time_offset = time_of x - earliest;
+  client_address = (lead x).client_address;
+  client_port = (lead x).client_port;
+  transaction_id = (lead x).id;
+  signature = kept_sig x;
+  client_hoplimit = option_map hop_limit_of x.query;
+  response_delay = delay_of x.query x.response;
+  query_size = option_map size_of x.query;
+  response_size = option_map size_of x.response;
 }
 
--- each query is one processed message, one item and one unmatched query
-abbrev pub statistics : List Query → Stats
-statistics qs = record {
-  processed = length qs;
-  items = length qs;
-  unmatched_queries = length qs;
-  unmatched_responses = 0;
+-- whether an exchange is a query with no response
+abbrev pub is_unanswered : Exchange → Bool
+is_unanswered x = is_some x.query && not (is_some x.response)
+
+-- whether an exchange is a response with no query
+abbrev pub is_unasked : Exchange → Bool
+is_unasked x = not (is_some x.query) && is_some x.response
+
+-- Each event is one processed message, and each exchange one item (RFC 8618 7.3.2.2).
+abbrev pub statistics : ℕ → List Exchange → Stats
+statistics processed xs = record {
+  processed = processed;
+  items = length xs;
+  unmatched_queries = count_by is_unanswered xs;
+  unmatched_responses = count_by is_unasked xs;
   discarded = 0;
   malformed = 0;
 }
@@ -107,10 +140,10 @@ pub record KeptBlock : Type 0 where
   pub stats : Stats
   pub items : List KeptItem
 
--- the block of these queries
-abbrev pub kept_block : List Query → KeptBlock
-kept_block qs = record {
-  earliest = stamp_of (earliest_tick qs);
-  stats = statistics qs;
-  items = map (kept_item (earliest_tick qs)) qs;
+-- the block of the exchanges of so many events
+abbrev pub kept_block : ℕ → List Exchange → KeptBlock
+kept_block processed xs = record {
+  earliest = stamp_of (earliest_tick xs);
+  stats = statistics processed xs;
+  items = map (kept_item (earliest_tick xs)) xs;
 }

@@ -1,4 +1,5 @@
 pub mod Events
+pub mod Exchanges
 pub mod Kept
 pub mod Tables
 pub mod Interning
@@ -6,6 +7,10 @@ pub mod Tree
 pub mod File
 pub mod Integers
 pub mod Parts
+pub mod Filing
+pub mod Reading
+pub mod Fronts
+pub mod Giving
 pub mod Words
 pub mod Endings
 pub mod Gathered

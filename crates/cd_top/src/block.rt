@@ -28,7 +28,7 @@ pub struct Stats {
     pub malformed: u64,
 }
 
-/// A query signature, with the place of its address (RFC 8618 7.3.2.3.2).
+/// A signature, with the place of its address (RFC 8618 7.3.2.3.2).
 #[derive(Clone, Copy, Debug, PartialEq, Eq)]
 pub struct BlockSig {
     /// The place of the server's address in the table of addresses.
@@ -40,13 +40,27 @@ pub struct BlockSig {
     pub sig_flags: u8,
     pub opcode: u8,
     /// CD, AD, Z, RA, RD, TC and AA of the query, from the lowest bit on.
+    /// The same of the response, from bit 8 on.
     pub dns_flags: u16,
-    pub query_rcode: u16,
-    /// The four counts of the query's header.
+    /// The RCODE of the query, where there is one.
+    pub query_rcode: Option<u16>,
+    /// The count of questions.
     pub qd: u16,
-    pub an: u16,
-    pub ns: u16,
-    pub ar: u16,
+    /// The other counts of the query's header, where there is one.
+    pub an: Option<u16>,
+    pub ns: Option<u16>,
+    pub ar: Option<u16>,
+    /// The RCODE of the response, where there is one.
+    pub response_rcode: Option<u16>,
+}
+
+/// The ticks from a query to its response.
+#[derive(Clone, Copy, Debug, PartialEq, Eq)]
+pub enum Delay {
+    /// The response comes so many ticks after its query.
+    After(u64),
+    /// It comes so many ticks before its query.
+    Before(u64),
 }
 
 /// An item of a block, with the places of its address and signature (RFC 8618 7.3.2.4).
@@ -57,14 +71,18 @@ pub struct BlockItem {
     /// The place of the client's address in the table of addresses.
     pub client_address: u64,
     pub client_port: u16,
-    /// The ID of the query's message.
+    /// The ID of the query's message, or else of the response's.
     pub transaction_id: u16,
     /// The place of the signature in the table of signatures.
     pub signature: u64,
-    /// The time to live of the query's packet.
-    pub client_hoplimit: u8,
-    /// Bytes of the query's message.
-    pub query_size: u64,
+    /// The time to live of the query's packet, where there is a query.
+    pub client_hoplimit: Option<u8>,
+    /// From the query to the response, where there are both.
+    pub response_delay: Option<Delay>,
+    /// Bytes of the query's message, where there is a query.
+    pub query_size: Option<u64>,
+    /// Bytes of the response's message, where there is a response.
+    pub response_size: Option<u64>,
 }
 
 /// A block with its tables, in which each value stands once (RFC 8618 7.3.2).
@@ -73,7 +91,7 @@ pub struct Block {
     /// The least time of its items.
     pub earliest: Stamp,
     pub stats: Stats,
-    /// One item for each query, in their order.
+    /// One item for each exchange, in their order.
     pub items: List<BlockItem>,
     /// The table of addresses, each of IPv4.
     pub ip_address: List<[u8; 4]>,

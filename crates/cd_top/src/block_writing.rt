@@ -1,11 +1,15 @@
 //! Spells a block in CBOR, each part by one function (RFC 8618 7.3.2). An `Err` says that no memory was found.
 
 ghost use Rattle.std.specs.Prelude.{◌≡◌, [], ◌∷◌, ◌++◌, map, OnOk};
-ghost use Rattle.cd_top.specs.Tree.{bytes, array, cbor_map, elements, entries, spelling};
-ghost use Rattle.cd_top.specs.File.{stamp_tree, stats_tree, sig_tree, item_tree, tables_tree, block_tree};
+ghost use Rattle.std.specs.Option.{option_map};
+ghost use Rattle.cd_top.specs.Integers.{integer_tree};
+ghost use Rattle.cd_top.specs.Tree.{bytes, unsigned, array, cbor_map, elements, entries, spelling};
+ghost use Rattle.cd_top.specs.File.{stamp_tree, stats_tree, delay_tree, sig_tree, item_tree, tables_tree, block_tree};
 
-use crate::block::{Block, BlockItem, BlockSig, Stamp, Stats};
-use crate::spelling::{push_array, push_bytes, push_fields, push_map, push_unsigned};
+use crate::block::{Block, BlockItem, BlockSig, Delay, Stamp, Stats};
+use crate::spelling::{
+    Integer, push_array, push_bytes, push_fields, push_map, push_present, push_unsigned,
+};
 use std::alloc::AllocError;
 
 #[tactic(auto, using(std::proofs::lemmas::List::append_assoc))]
@@ -33,23 +37,65 @@ fn push_stats(out: &mut Vec<u8>, stats: &Stats) -> Result<(), AllocError>
     )
 }
 
+// A byte, where it is there.
+fn byte(n: Option<u8>) -> Option<Integer>
+    ensures { option_map integer_tree result ≡ option_map unsigned n }
+{
+    match n {
+        Some(n) => Some(Integer::Unsigned(n as u64)),
+        None => None,
+    }
+}
+
+// A word of two bytes, where it is there.
+fn word(n: Option<u16>) -> Option<Integer>
+    ensures { option_map integer_tree result ≡ option_map unsigned n }
+{
+    match n {
+        Some(n) => Some(Integer::Unsigned(n as u64)),
+        None => None,
+    }
+}
+
+// A number, where it is there.
+fn number(n: Option<u64>) -> Option<Integer>
+    ensures { option_map integer_tree result ≡ option_map unsigned n }
+{
+    match n {
+        Some(n) => Some(Integer::Unsigned(n)),
+        None => None,
+    }
+}
+
+// A delay, where it is there.
+fn ticks(delay: Option<Delay>) -> Option<Integer>
+    ensures { option_map integer_tree result ≡ option_map delay_tree delay }
+{
+    match delay {
+        Some(Delay::After(n)) => Some(Integer::Unsigned(n)),
+        Some(Delay::Before(n)) => Some(Integer::Negative(n.saturating_sub(1))),
+        None => None,
+    }
+}
+
 fn push_sig(out: &mut Vec<u8>, sig: &BlockSig) -> Result<(), AllocError>
     ensures { OnOk result (out.new.items ≡ out.old.items ++ spelling (sig_tree sig.now)) }
 {
-    push_fields(
+    push_present(
         out,
         &[
-            (0, sig.server_address),
-            (1, sig.server_port as u64),
-            (2, sig.transport_flags as u64),
-            (4, sig.sig_flags as u64),
-            (5, sig.opcode as u64),
-            (6, sig.dns_flags as u64),
-            (7, sig.query_rcode as u64),
-            (9, sig.qd as u64),
-            (10, sig.an as u64),
-            (11, sig.ns as u64),
-            (12, sig.ar as u64),
+            (0, Some(Integer::Unsigned(sig.server_address))),
+            (1, Some(Integer::Unsigned(sig.server_port as u64))),
+            (2, Some(Integer::Unsigned(sig.transport_flags as u64))),
+            (4, Some(Integer::Unsigned(sig.sig_flags as u64))),
+            (5, Some(Integer::Unsigned(sig.opcode as u64))),
+            (6, Some(Integer::Unsigned(sig.dns_flags as u64))),
+            (7, word(sig.query_rcode)),
+            (9, Some(Integer::Unsigned(sig.qd as u64))),
+            (10, word(sig.an)),
+            (11, word(sig.ns)),
+            (12, word(sig.ar)),
+            (16, word(sig.response_rcode)),
         ],
     )
 }
@@ -57,16 +103,18 @@ fn push_sig(out: &mut Vec<u8>, sig: &BlockSig) -> Result<(), AllocError>
 fn push_item(out: &mut Vec<u8>, item: &BlockItem) -> Result<(), AllocError>
     ensures { OnOk result (out.new.items ≡ out.old.items ++ spelling (item_tree item.now)) }
 {
-    push_fields(
+    push_present(
         out,
         &[
-            (0, item.time_offset),
-            (1, item.client_address),
-            (2, item.client_port as u64),
-            (3, item.transaction_id as u64),
-            (4, item.signature),
-            (5, item.client_hoplimit as u64),
-            (8, item.query_size),
+            (0, Some(Integer::Unsigned(item.time_offset))),
+            (1, Some(Integer::Unsigned(item.client_address))),
+            (2, Some(Integer::Unsigned(item.client_port as u64))),
+            (3, Some(Integer::Unsigned(item.transaction_id as u64))),
+            (4, Some(Integer::Unsigned(item.signature))),
+            (5, byte(item.client_hoplimit)),
+            (6, ticks(item.response_delay)),
+            (8, number(item.query_size)),
+            (9, number(item.response_size)),
         ],
     )
 }

@@ -13,6 +13,8 @@
 mod block;
 mod block_writing;
 mod compaction;
+mod event_writing;
+mod exchange;
 mod file_writing;
 mod gathering;
 mod intake;
@@ -26,6 +28,7 @@ mod tables;
 mod tests;
 mod words;
 
+pub use event_writing::each_list_has_one_file;
 pub use run::{exit_code, run_plain};
 pub use status::Status;
 pub use tables::tables_hold_each_value_once;

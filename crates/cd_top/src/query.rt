@@ -28,17 +28,6 @@ pub struct Query {
     pub bits: u16,
 }
 
-impl Query {
-    ghost use Rattle.cd_top.specs.Kept.{tick_of};
-
-    /// Microseconds since 1970, rounded down.
-    pub fn tick(&self) -> u64
-        ensures { result ≡ tick_of self.now }
-    {
-        self.time / 1000
-    }
-}
-
 // The port of DNS.
 const DNS_PORT: u16 = 53;
 

@@ -1,26 +1,29 @@
-//! The block of some queries.
+//! The block of some exchanges.
 
-ghost use Rattle.std.specs.Prelude.{◌≡◌, ◌≢◌, ◌↔◌, ℕ, List, AllPairs, Contains, IfOk};
-ghost use Rattle.cd_top.specs.Kept.{KeptSig, earliest_tick as least_tick, stamp_of, statistics as statistics_of, kept_block};
+ghost use Rattle.std.specs.Prelude.{◌≡◌, ◌≢◌, ◌↔◌, ◌≤◌, ℕ, List, length, AllPairs, Contains, IfOk};
+ghost use Rattle.std.specs.List.{count_by};
+ghost use Rattle.cd_top.specs.Kept.{earliest_tick as least_tick, stamp_of, is_unanswered, is_unasked, statistics as statistics_of, kept_block};
 ghost use Rattle.cd_top.specs.Tables.{indexed_block, table_of, same_address, same_sig};
+ghost use Rattle.cd_top.specs.declared.intern.Sig.{Sig};
 
 use crate::block::{Block, Stamp, Stats};
+use crate::exchange::Exchange;
 use crate::intern::Tables;
-use crate::query::Query;
 use std::alloc::{AllocError, Global};
 
 const TICKS_PER_SECOND: u64 = 1_000_000;
 
-// The least tick of some queries, or 0 where there is none.
-fn earliest_tick(queries: &[Query]) -> u64
-    ensures { result ≡ least_tick queries.now }
+// The least tick of some exchanges, or 0 where there is none.
+fn earliest_tick(exchanges: &[Exchange]) -> u64
+    ensures { result ≡ least_tick exchanges.now }
 {
-    match queries {
+    match exchanges {
         [] => 0,
         [first, rest @ ..] => {
-            let mut earliest = first.tick();
-            'rest: for query in rest {
-                earliest = earliest.min(query.tick());
+            let mut earliest = first.lead().tick();
+            'rest: for exchange in rest {
+                let tick = exchange.lead().tick();
+                earliest = earliest.min(tick);
             }
             earliest
         }
@@ -36,29 +39,58 @@ fn stamp(tick: u64) -> Stamp
     }
 }
 
-fn statistics(queries: &[Query]) -> Stats
-    ensures { result ≡ statistics_of queries.now }
+// How many exchanges are a query with no response.
+fn unanswered_count(exchanges: &[Exchange]) -> u64
+    ensures { result ≡ count_by is_unanswered exchanges.now }
 {
-    let count = queries.len() as u64;
+    let mut count: usize = 0;
+    'exchanges: for exchange in exchanges {
+        if exchange.query.is_some() && exchange.response.is_none() {
+            count += 1;
+        }
+    }
+    count as u64
+}
+
+// How many exchanges are a response with no query.
+fn unasked_count(exchanges: &[Exchange]) -> u64
+    ensures { result ≡ count_by is_unasked exchanges.now }
+{
+    let mut count: usize = 0;
+    'exchanges: for exchange in exchanges {
+        if exchange.query.is_none() && exchange.response.is_some() {
+            count += 1;
+        }
+    }
+    count as u64
+}
+
+fn statistics(processed: u64, exchanges: &[Exchange]) -> Stats
+    ensures { result ≡ statistics_of processed exchanges.now }
+{
     Stats {
-        processed: count,
-        items: count,
-        unmatched_queries: count,
-        unmatched_responses: 0,
+        processed,
+        items: exchanges.len() as u64,
+        unmatched_queries: unanswered_count(exchanges),
+        unmatched_responses: unasked_count(exchanges),
         discarded: 0,
         malformed: 0,
     }
 }
 
-/// The block of some queries: what is kept of each, with each address and each signature once in its table
-/// (RFC 8618 7.3.2). It fails only for want of memory.
-pub fn indexed_block(alloc: Global, queries: &[Query]) -> Result<Block, AllocError>
-    ensures { IfOk result (λ b. b ≡ indexed_block (kept_block queries.now)) }
+/// The block of the exchanges of so many events: what is kept of each, with each address and each signature once in its
+/// table (RFC 8618 7.3.2). It fails only for want of memory.
+pub fn indexed_block(
+    alloc: Global,
+    processed: u64,
+    exchanges: &[Exchange],
+) -> Result<Block, AllocError>
+    ensures { IfOk result (λ b. b ≡ indexed_block (kept_block processed exchanges.now)) }
 {
-    let earliest = earliest_tick(queries);
+    let earliest = earliest_tick(exchanges);
     let mut tables = Tables::new(alloc);
-    'queries: for query in queries {
-        tables.put_query(earliest, query)?;
+    'exchanges: for exchange in exchanges {
+        tables.put_exchange(earliest, exchange)?;
     }
     let Tables {
         addresses,
@@ -68,7 +100,7 @@ pub fn indexed_block(alloc: Global, queries: &[Query]) -> Result<Block, AllocErr
     } = tables;
     Ok(Block {
         earliest: stamp(earliest),
-        stats: statistics(queries),
+        stats: statistics(processed, exchanges),
         items,
         ip_address: addresses,
         qr_sig: block_signatures,
@@ -79,8 +111,8 @@ pub fn indexed_block(alloc: Global, queries: &[Query]) -> Result<Block, AllocErr
 pub fn tables_hold_each_value_once()
     ensures once { (values : List (List ℕ)) → AllPairs (λ a b. a ≢ b) (table_of same_address values) }
     ensures all { (values : List (List ℕ)) (x : List ℕ) → Contains values x ↔ Contains (table_of same_address values) x }
-    ensures signatures_once { (values : List KeptSig) → AllPairs (λ a b. a ≢ b) (table_of same_sig values) }
-    ensures all_signatures { (values : List KeptSig) (x : KeptSig) → Contains values x ↔ Contains (table_of same_sig values) x }
+    ensures signatures_once { (values : List Sig) → AllPairs (λ a b. a ≢ b) (table_of same_sig values) }
+    ensures all_signatures { (values : List Sig) (x : Sig) → Contains values x ↔ Contains (table_of same_sig values) x }
 {}
 
 #[cfg(test)]

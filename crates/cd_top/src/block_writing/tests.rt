@@ -19,11 +19,12 @@ fn sample(alloc: Global) -> Result<Block, AllocError> {
         sig_flags: 17,
         opcode: 0,
         dns_flags: 16,
-        query_rcode: 0,
+        query_rcode: Some(0),
         qd: 0,
-        an: 0,
-        ns: 0,
-        ar: 0,
+        an: Some(0),
+        ns: Some(0),
+        ar: Some(0),
+        response_rcode: None,
     };
     let item = BlockItem {
         time_offset: 0,
@@ -31,8 +32,10 @@ fn sample(alloc: Global) -> Result<Block, AllocError> {
         client_port: 54_321,
         transaction_id: 0x1234,
         signature: 0,
-        client_hoplimit: 64,
-        query_size: 12,
+        client_hoplimit: Some(64),
+        response_delay: None,
+        query_size: Some(12),
+        response_size: None,
     };
     Ok(Block {
         earliest: Stamp {

@@ -1,4 +1,4 @@
-use crate::file_writing::write_file;
+use crate::file_writing::write_exchanges;
 use cd_name::List;
 use cd_ports::{MemSink, SinkFault};
 use std::alloc::AllocError;
@@ -10,10 +10,10 @@ const WANTED: &[u8] = b"\x83\x65C-DNS\xa3\x00\x01\x01\x00\x03\x81\xa2\x00\
     \x01\xa2\x00\x19\x13\x88\x01\x0a\x9f\xff";
 
 #[test]
-fn no_query_makes_no_block(rt: HostRuntime) -> Result<(), AllocError> {
+fn no_event_makes_no_block(rt: HostRuntime) -> Result<(), AllocError> {
     let alloc = rt.alloc();
     let mut out = MemSink::new(alloc, List::from_vec(Vec::new(alloc)), 0);
-    let result = write_file(alloc, &[], &mut out);
+    let result = write_exchanges(alloc, 0, &[], &mut out);
     assert!(rt; result == Ok(()));
     assert!(rt; out.contents() == WANTED);
     Ok(())
@@ -26,7 +26,7 @@ fn a_sink_fails_at_each_write(rt: HostRuntime) -> Result<(), AllocError> {
         let mut fails = Vec::new(alloc);
         fails.push(call)?;
         let mut out = MemSink::new(alloc, List::from_vec(fails), keep);
-        let result = write_file(alloc, &[], &mut out);
+        let result = write_exchanges(alloc, 0, &[], &mut out);
         assert!(rt; result == Err(SinkFault::Failed));
         assert!(rt; out.contents() == &WANTED[..held], "at {call} with {keep}");
     }

@@ -1,6 +1,6 @@
 use super::{indexed_block, tables_hold_each_value_once};
 use crate::block::{BlockItem, BlockSig, Stamp, Stats};
-use crate::query::Query;
+use crate::exchange::{Exchange, Half};
 use std::alloc::AllocError;
 
 const CLIENT: [u8; 4] = [10, 0, 0, 1];
@@ -9,17 +9,20 @@ const OTHER_CLIENT: [u8; 4] = [10, 0, 0, 2];
 
 const SERVER: [u8; 4] = [10, 0, 0, 9];
 
-// A query with the flags RD and CD.
-fn query(time: u64, client_address: [u8; 4], server_port: u16, id: u16) -> Query {
-    Query {
-        time,
-        client_address,
-        server_address: SERVER,
-        client_port: 40000,
-        server_port,
-        hop_limit: 64,
-        id,
-        bits: 0x0110,
+// A query with the flags RD and CD, by itself.
+fn query(time: u64, client_address: [u8; 4], server_port: u16, id: u16) -> Exchange {
+    Exchange {
+        query: Some(Half {
+            time,
+            client_address,
+            server_address: SERVER,
+            client_port: 40000,
+            server_port,
+            hop_limit: 64,
+            id,
+            bits: 0x0110,
+        }),
+        response: None,
     }
 }
 
@@ -31,11 +34,12 @@ fn signature(server_port: u16) -> BlockSig {
         sig_flags: 17,
         opcode: 0,
         dns_flags: 17,
-        query_rcode: 0,
+        query_rcode: Some(0),
         qd: 0,
-        an: 0,
-        ns: 0,
-        ar: 0,
+        an: Some(0),
+        ns: Some(0),
+        ar: Some(0),
+        response_rcode: None,
     }
 }
 
@@ -46,8 +50,10 @@ fn item(time_offset: u64, client_address: u64, transaction_id: u16, signature: u
         client_port: 40000,
         transaction_id,
         signature,
-        client_hoplimit: 64,
-        query_size: 12,
+        client_hoplimit: Some(64),
+        response_delay: None,
+        query_size: Some(12),
+        response_size: None,
     }
 }
 
@@ -58,7 +64,7 @@ fn three_queries_at_falling_times(rt: HostRuntime) -> Result<(), AllocError> {
         query(1_700_000_002_500_000_000, CLIENT, 53, 8),
         query(1_700_000_001_999_999_000, OTHER_CLIENT, 5353, 9),
     ];
-    let block = indexed_block(rt.alloc(), &queries)?;
+    let block = indexed_block(rt.alloc(), 3, &queries)?;
     let earliest = Stamp {
         seconds: 1_700_000_001,
         ticks: 999_999,
@@ -86,7 +92,7 @@ fn three_queries_at_falling_times(rt: HostRuntime) -> Result<(), AllocError> {
 
 #[test]
 fn no_queries(rt: HostRuntime) -> Result<(), AllocError> {
-    let block = indexed_block(rt.alloc(), &[])?;
+    let block = indexed_block(rt.alloc(), 0, &[])?;
     let earliest = Stamp {
         seconds: 0,
         ticks: 0,
