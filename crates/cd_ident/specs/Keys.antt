@@ -34,9 +34,13 @@ side_of Response = side.Response
 side_of Malformed = side.Neither
 side_of Discarded = side.Neither
 
+-- what an event of these parts shows to the pairing
+abbrev pub view_of_parts : EventParts → EventView
+view_of_parts e = record { side = side_of e.kind; time = e.time; weight = e.weight; primary = e.ids.primary; secondary = e.ids.secondary }
+
 -- what an event shows to the pairing
 abbrev pub view_of : Event → EventView
-view_of e = record { side = side_of e.kind; time = e.time; weight = e.weight; primary = e.ids.primary; secondary = e.ids.secondary }
+view_of e = view_of_parts (parts_of e)
 
 -- the identifiers of two events are compatible exactly as the pairing asks
 abbrev pub CompatibleIdsAreTheKeys : Type 0

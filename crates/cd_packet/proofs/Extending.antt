@@ -134,3 +134,42 @@ pcap-grow xs more four =
             ]
       ]
     ]
+
+within_at : (c d : Capture) (n : ℕ) → c ≡ d → length d.packets ≤ n → length c.packets ≤ n
+within_at c d n is h = let P : Capture → Type 0 = λ k. length k.packets ≤ n in subst P (sym is) h
+
+-- records are not more than bytes
+records-within : (link inside at : ℕ) (bytes : List ℕ) → length (records link inside at bytes).packets ≤ length bytes
+unfolding records
+records-within link zero at [] = omega arith
+records-within link (suc inside) at [] = omega arith
+records-within link (suc inside) at (b ∷ bytes) = let k = records-within link inside (at + 1) bytes in omega arith
+records-within link zero at (b ∷ bytes) =
+    elim (cases_lt (length (b ∷ bytes)) 16) [
+      | inl short ↦ within_at _ _ _ (records-short link at (b ∷ bytes) (omega arith) short) (omega arith)
+      | inr long ↦ elim (cases_lt 262144 (captured_length (b ∷ bytes))) [
+        | inl large ↦ within_at _ _ _ (records-refused link at (b ∷ bytes) long large) (omega arith)
+        | inr small ↦ elim (cases_lt (length (b ∷ bytes)) (16 + captured_length (b ∷ bytes))) [
+          | inl cut ↦ within_at _ _ _ (records-cut link at (b ∷ bytes) long small cut) (omega arith)
+          | inr whole ↦
+              let k = records-within link (15 + captured_length (b ∷ bytes)) (at + 1) bytes in
+              within_at _ _ _ (records-first link at b bytes long small whole) (omega arith)
+        ]
+      ]
+    ]
+
+-- the packets of a capture are not more than its bytes
+pub pcap-within : (bytes : List ℕ) → length (pcap bytes).packets ≤ length bytes
+pcap-within bytes =
+    elim (cases_Bool (is_little_micro bytes)) [
+      | inr other ↦ within_at _ _ _ (pcap-magic bytes other) (omega arith)
+      | inl magic ↦ elim (cases_lt (length bytes) 24) [
+        | inl short ↦ within_at _ _ _ (pcap-short bytes magic short) (omega arith)
+        | inr long ↦ elim (cases_eq (le16 4 bytes) 2) [
+          | inr three ↦ within_at _ _ _ (pcap-version bytes magic long three) (omega arith)
+          | inl two ↦
+              let k = records-within (le16 20 bytes) 0 24 (drop 24 bytes) in
+              within_at _ _ _ (pcap-records bytes magic long two) (omega (arith, length-drop 24 bytes))
+        ]
+      ]
+    ]

@@ -15,7 +15,7 @@ use Rattle.cd_packet.specs.declared.capture.EndState.TheVariants.{Whole, Cut, Ba
 use Rattle.cd_ports.specs.Reading.{SourceMeaning}
 use Rattle.cd_ports.specs.Writing.{SinkMeaning}
 use Rattle.cd_top.specs.Endings.{is_other_format, first_unserved, status_said, ended_by}
-use Rattle.cd_top.specs.Run.{IsStopped, EndsAs, ComesExactly, IsTaken, Writes, defined_file, IsServedCapture, Compacts, Refuses, RefusesWords}
+use Rattle.cd_top.specs.Run.{IsStopped, EndsAs, ComesExactly, IsTaken, Writes, IsDefinedFile, IsServedCapture, Compacts, Refuses, RefusesWords}
 use Rattle.cd_top.specs.Words.{usage_text}
 use Rattle.cd_top.specs.declared.status.Status.{Status}
 use Rattle.cd_top.specs.declared.status.Status.TheVariants as status
@@ -77,9 +77,9 @@ not_yet_comes so sn ko kn result h taken is at =
     said_comes taken sn.ended result (status.NotYet at) (stands_taken so sn ko kn result h taken is) (λ e. absurd cc) (λ e. absurd cc) (λ k. k)
 
 pub file_written : (so sn : SourceMeaning) (ko kn : SinkMeaning) (result : Status) → Compacts so sn ko kn result → (taken : List ℕ) → IsTaken so sn taken →
-    Writes ko kn result (defined_file taken sn.ended)
+    (file : List ℕ) → IsDefinedFile taken sn.ended file → Writes ko kn result file
 file_written so sn ko kn result h taken is =
-    let P : List ℕ → Type 0 = λ t. Writes ko kn result (defined_file t sn.ended) in
+    let P : List ℕ → Type 0 = λ t. (file : List ℕ) → IsDefinedFile t sn.ended file → Writes ko kn result file in
     subst P (taken_is so sn h.0 taken h.1.took is) h.1.file
 
 open_before : (now later : Capture) → Grows now later → IsWholeOrCut later.end → (e : EndState) → now.end ≡ e → IsWholeOrCut e

@@ -2,6 +2,7 @@ pub mod Places
 pub mod Judging
 pub mod Following
 pub mod Waiting
+pub mod Light
 pub mod Compacting
 pub mod Distinct
 pub mod Interning

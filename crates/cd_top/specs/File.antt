@@ -1,11 +1,9 @@
 -- The C-DNS file: an array of the text "C-DNS", a preamble and the array of blocks (RFC 8618 7.3).
-use Rattle.std.specs.Prelude.{ℕ, zero, suc, ◌-◌, List, [], ◌∷◌, length, map, codes, Some, None}
+use Rattle.std.specs.Prelude.{ℕ, zero, suc, ◌-◌, List, [], ◌∷◌, map, codes, Some, None}
 use Rattle.std.specs.Option.{option_map}
-use Rattle.cd_top.specs.Events.{events}
 use Rattle.cd_top.specs.Kept.{kept_block}
 use Rattle.cd_top.specs.Tables.{indexed_block}
 use Rattle.cd_top.specs.Tree.{Tree, unsigned, negative, bytes, text, array, cbor_map, indefinite_array, elements, entries, fields, present, spelling}
-use Rattle.cd_top.specs.declared.query.Query.{Query}
 use Rattle.cd_top.specs.declared.exchange.Exchange.{Exchange}
 use Rattle.cd_top.specs.declared.block.Delay.{Delay}
 use Rattle.cd_top.specs.declared.block.Delay.TheVariants.{After, Before}
@@ -94,27 +92,3 @@ file_tree blocks = array (elements (text (codes "C-DNS") ∷ preamble ∷ indefi
 -- the file of the exchanges of so many events
 unfoldable pub file_of_exchanges : ℕ → List Exchange → List ℕ
 file_of_exchanges processed xs = spelling (file_tree (blocks_of processed xs))
-
--- a query by itself
-abbrev pub alone : Query → Exchange
-alone q = record {
-  query = Some (record {
-    time = q.time;
-    client_address = q.client_address;
-    server_address = q.server_address;
-    client_port = q.client_port;
-    server_port = q.server_port;
-    hop_limit = q.hop_limit;
-    id = q.id;
-    bits = q.bits;
-  });
-  response = None;
-}
-
--- the file of these queries
-unfoldable pub file : List Query → List ℕ
-file queries = file_of_exchanges (length queries) (map alone queries)
-
--- the file of a capture of these bytes, each packet of which can be compacted
-abbrev pub file_of : List ℕ → List ℕ
-file_of taken = file (events taken)

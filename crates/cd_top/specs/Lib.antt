@@ -8,9 +8,6 @@ pub mod File
 pub mod Integers
 pub mod Parts
 pub mod Filing
-pub mod Reading
-pub mod Fronts
-pub mod Giving
 pub mod Words
 pub mod Endings
 pub mod Gathered

@@ -8,7 +8,8 @@ use Rattle.cd_ports.specs.Reading.{SourceMeaning}
 use Rattle.cd_ports.specs.Writing.{SinkMeaning, AppendsPrefix}
 use Rattle.cd_top.specs.declared.status.Status.{Status}
 use Rattle.cd_top.specs.declared.status.Status.TheVariants as status
-use Rattle.cd_top.specs.File.{file_of}
+use Rattle.cd_top.specs.Events.{events}
+use Rattle.cd_top.specs.Filing.{default_windows, IsFileOf}
 use Rattle.cd_top.specs.Endings.{ended_by, first_unserved, used_bytes, StopsReading}
 use Rattle.cd_top.specs.Words.{usage_text}
 
@@ -47,9 +48,9 @@ Writes old new (status.BadCapture b) bytes = Appends old.contents new.contents b
 Writes old new status.ReadFault bytes = Appends old.contents new.contents bytes
 Writes old new (status.NotYet at) bytes = Appends old.contents new.contents bytes
 
--- the file of the bytes taken, or of those before the place that stopped the run
-abbrev pub defined_file : List ℕ → Bool → List ℕ
-defined_file taken told_end = file_of (used_bytes (ended_by taken told_end) taken)
+-- this is the file of the events in the bytes taken, or in those before the place that stopped the run
+abbrev pub IsDefinedFile : List ℕ → Bool → List ℕ → Type 0
+IsDefinedFile taken told_end file = IsFileOf default_windows (events (used_bytes (ended_by taken told_end) taken)) file
 
 -- The words are no command: nothing is read or written but the report, which says the place.
 pub record RefusesWords (place : ℕ) (src_old src_new : SourceMeaning) (out_old out_new report_old report_new : SinkMeaning) (result : Status) : Type 0 where
@@ -96,7 +97,7 @@ pub record CompactsTaken (taken : List ℕ) (src_old src_new : SourceMeaning) (o
   pub took : Consumes src_old.left src_new.left taken
   pub stops : StopsReading taken
   pub status : EndsAs result (ended_by taken src_new.ended)
-  pub file : Writes out_old out_new result (defined_file taken src_new.ended)
+  pub file : (bytes : List ℕ) → IsDefinedFile taken src_new.ended bytes → Writes out_old out_new result bytes
 
 -- the run took some bytes, and its answer and file are theirs
 abbrev pub Compacts : SourceMeaning → SourceMeaning → SinkMeaning → SinkMeaning → Status → Type 0

@@ -7,7 +7,7 @@ ghost use Rattle.cd_top.specs.Endings.{most_taken};
 ghost use Rattle.cd_top.specs.Run.{Compacts, IsStopped, ReadFaultIsTold, WriteOutranks};
 
 use crate::Status;
-use crate::file_writing::write_file;
+use crate::event_writing::write_events;
 use crate::gathering::gather;
 use cd_ports::{Sink, SinkFault, Source};
 use std::alloc::{AllocError, Global};
@@ -28,7 +28,7 @@ pub fn compact<S: Source, K: Sink>(alloc: Global, src: &mut S, out: &mut K) -> S
 {
     match gather(alloc, src) {
         Err(AllocError) => Status::NoMemory,
-        Ok(gathered) => match write_file(alloc, gathered.queries.as_slice(), out) {
+        Ok(gathered) => match write_events(alloc, gathered.events.as_slice(), out) {
             Ok(()) => gathered.status,
             Err(SinkFault::Failed) => Status::WriteFault,
             Err(SinkFault::NoMemory) => Status::NoMemory,

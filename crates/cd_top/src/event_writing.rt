@@ -2,7 +2,7 @@
 
 ghost use Rattle.std.specs.Prelude.{ℕ, ◌<◌, ◌^◌, List, map};
 ghost use Rattle.std.specs.List.{sum_by};
-ghost use Rattle.cd_ident.specs.Keys.{view_of};
+ghost use Rattle.cd_ident.specs.Keys.{parts_of, view_of};
 ghost use Rattle.cd_ports.specs.Writing.{OutputStep};
 ghost use Rattle.cd_top.specs.Filing.{default_windows, IsFileOf, EachListHasOneFile};
 
@@ -28,7 +28,7 @@ const WINDOWS: Windows = Windows {
 /// The weights of all events together stay below 2^63.
 pub fn write_events<K: Sink>(alloc: Global, events: &[Event], out: &mut K) -> Result<(), SinkFault>
     requires light { sum_by (λ e. e.weight) (map view_of events.now) < 2 ^ 63 }
-    ensures { (file : List ℕ) → IsFileOf default_windows events.now file →
+    ensures { (file : List ℕ) → IsFileOf default_windows (map parts_of events.now) file →
         OutputStep (K.means out.old) (K.means out.new) result file }
 {
     let partners = match pair_all(alloc, events, &WINDOWS) {

@@ -1,16 +1,15 @@
 //! Writes the C-DNS file (RFC 8618 7.3).
 
-ghost use Rattle.std.specs.Prelude.{◌≡◌, ◌∷◌, [], map, IfOk};
+ghost use Rattle.std.specs.Prelude.{◌≡◌, ◌∷◌, [], IfOk};
 ghost use Rattle.cd_ports.specs.Writing.{WriteStep, OutputStep};
-ghost use Rattle.cd_top.specs.File.{block_tree, blocks_of, file_of_exchanges, alone, file};
+ghost use Rattle.cd_top.specs.File.{block_tree, blocks_of, file_of_exchanges};
 ghost use Rattle.cd_top.specs.Kept.{kept_block};
 ghost use Rattle.cd_top.specs.Tables.{indexed_block};
 ghost use Rattle.cd_top.specs.Tree.{spelling};
 ghost use Rattle.cd_top.specs.Parts.{beginning, blocks_spelling};
 
 use crate::block_writing::push_block;
-use crate::exchange::{Exchange, Half};
-use crate::query::Query;
+use crate::exchange::Exchange;
 use crate::tables::indexed_block;
 use cd_ports::{Sink, SinkFault};
 use std::alloc::{AllocError, Global};
@@ -83,48 +82,6 @@ pub fn write_exchanges<K: Sink>(
     match write_blocks(alloc, processed, exchanges, out) {
         Ok(()) => write_end(out),
         Err(fault) => Err(fault),
-    }
-}
-
-// A query by itself.
-fn alone(query: &Query) -> Exchange
-    ensures { result ≡ alone query.now }
-{
-    Exchange {
-        query: Some(Half {
-            time: query.time,
-            client_address: query.client_address,
-            server_address: query.server_address,
-            client_port: query.client_port,
-            server_port: query.server_port,
-            hop_limit: query.hop_limit,
-            id: query.id,
-            bits: query.bits,
-        }),
-        response: None,
-    }
-}
-
-// Each query by itself.
-fn all_alone(alloc: Global, queries: &[Query]) -> Result<Vec<Exchange>, AllocError>
-    ensures { IfOk result (λ v. v.items ≡ map alone queries.now) }
-{
-    let mut exchanges = Vec::new(alloc);
-    'queries: for query in queries {
-        exchanges.push(alone(query))?;
-    }
-    Ok(exchanges)
-}
-
-/// Writes the file of some queries: its beginning, one block where there is a query, and its end (RFC 8618 7.3).
-/// At an `Err` a prefix of it was written. `NoMemory` may come between two writes too.
-#[tactic(auto, unfolding(crate::specs::File::file))]
-pub fn write_file<K: Sink>(alloc: Global, queries: &[Query], out: &mut K) -> Result<(), SinkFault>
-    ensures { OutputStep (K.means out.old) (K.means out.new) result (file queries.now) }
-{
-    match all_alone(alloc, queries) {
-        Ok(exchanges) => write_exchanges(alloc, queries.len() as u64, exchanges.as_slice(), out),
-        Err(AllocError) => Err(SinkFault::NoMemory),
     }
 }
 

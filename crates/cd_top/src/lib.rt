@@ -2,24 +2,25 @@
 //!
 //! - A *run* takes the words of the command line, reads a capture from a source, writes its C-DNS file to a sink, and
 //!   answers a `Status`.
-//! - A *query* is one event of a capture: a packet whose DNS message is a header alone (`query`).
-//! - A *block* holds all queries, with its *tables*, in which each address and each *signature* stands once (`tables`).
-//! - The *file* is its beginning, the block where there is a query, and its end (`file_writing`), in CBOR (`spelling`).
+//! - An *event* of a capture is a query or a response: a packet whose DNS message is a header alone (`event`).
+//! - An *exchange* is a query with its response, or one of the two alone, by the pairing of all events (`exchange`).
+//! - A *block* holds all exchanges, with its *tables*, in which each address and each *signature* stands once (`tables`).
+//! - The *file* is its beginning, the block where there is an event, and its end (`file_writing`), in CBOR (`spelling`).
 //!
-//! The way of the data: bytes, packets and their queries (`gathering`, `intake`), the block of the queries (`tables`,
-//! `intern`), its spelling (`block_writing`, `spelling`), the file (`file_writing`).
+//! The way of the data: bytes, packets and their events (`gathering`, `intake`), the exchanges of the events
+//! (`event_writing`), their block (`tables`, `intern`), its spelling (`block_writing`, `spelling`), the file (`file_writing`).
 #![tactic(auto)]
 
 mod block;
 mod block_writing;
 mod compaction;
+mod event;
 mod event_writing;
 mod exchange;
 mod file_writing;
 mod gathering;
 mod intake;
 mod intern;
-mod query;
 mod run;
 mod spelling;
 mod status;

@@ -5,7 +5,7 @@ ghost use Rattle.std.specs.Io.KnownBytes.{IsAtEnd};
 ghost use Rattle.cd_packet.specs.declared.capture.BadCapture.{BadCapture};
 ghost use Rattle.cd_ports.specs.Counter.{Rose};
 ghost use Rattle.cd_top.specs.Endings.{status_said, ended_by, most_taken, StopsReading};
-ghost use Rattle.cd_top.specs.Run.{ComesExactly, IsTaken, EndsAs, Writes, defined_file, RefusesWords, Refuses, WriteOutranks, ReadFaultIsTold, IsServedCapture, IsSound, code_of};
+ghost use Rattle.cd_top.specs.Run.{ComesExactly, IsTaken, EndsAs, Writes, IsDefinedFile, RefusesWords, Refuses, WriteOutranks, ReadFaultIsTold, IsServedCapture, IsSound, code_of};
 ghost use Rattle.cd_top.specs.Words.{language, BreaksAt};
 
 use crate::Status;
@@ -92,7 +92,7 @@ pub fn run_plain<S: Source, K: Sink, E: Sink>(
 
     // The file of the bytes taken, or of those before the place that stopped the run, is written; the report is not.
     ensures file { words.now ≡ language → (taken : List ℕ) → IsTaken (S.means src.old) (S.means src.new) taken →
-        Writes (K.means out.old) (K.means out.new) result (defined_file taken (S.means src.new).ended) }
+        (file : List ℕ) → IsDefinedFile taken (S.means src.new).ended file → Writes (K.means out.old) (K.means out.new) result file }
     ensures report { words.now ≡ language → E.means report.new ≡ E.means report.old }
 
     // Reading stops in time, within its bounds, and takes no byte after a failed read.
