@@ -1,8 +1,7 @@
 -- The spelling and the number of elements that stand one after another.
-use Rattle.std.proofs.Common.{◌≡◌, ℕ, ◌+◌, ◌*◌, ◌/◌, ◌<◌, ◌≤◌, List, [], ◌∷◌, ◌++◌, length, map, take, get_or, Option, Some, None, refl, subst, ap, length-append, sym, ◌∙◌, arith, append_assoc}
+use Rattle.std.proofs.Common.{◌≡◌, ℕ, ◌+◌, ◌*◌, ◌/◌, ◌<◌, ◌≤◌, List, [], ◌∷◌, ◌++◌, length, map, take, get_or, Option, Some, None, refl, ap, length-append, sym, ◌∙◌, arith, append_assoc}
 use Rattle.std.proofs.lemmas.List.{append-nil, take_all, take_more, map_more, length-map}
 use Rattle.std.proofs.lemmas.List.Elements.{filter_map-append}
-use Rattle.std.specs.Option.{option_map}
 use Rattle.cd_top.specs.Tree.{Tree, array, cbor_map, elements, count_of, spelling, head_of}
 use Rattle.cd_top.specs.Tree.{fields, entries, entry_of, present}
 use Rattle.cd_top.specs.Integers.{integer_tree, integer_entry}

@@ -1,11 +1,10 @@
 -- The exchanges of a list of partners, with one partner more.
-use Rattle.std.proofs.Common.{◌≡◌, ℕ, suc, ◌+◌, ◌<◌, ◌≤◌, Bool, true, false, ltb, cond, List, [], ◌∷◌, ◌++◌, length, take, map, get_or, Option, Some, None, refl, ap, sym, ◌∙◌, arith}
+use Rattle.std.proofs.Common.{◌≡◌, ℕ, suc, ◌+◌, ◌<◌, ◌≤◌, Bool, true, false, ltb, cond, List, [], ◌∷◌, ◌++◌, length, take, map, get_or, Option, Some, None, ap, sym, ◌∙◌, arith}
 use Rattle.std.proofs.lemmas.Bool.{lt-ltb, le-ltb}
 use Rattle.std.proofs.lemmas.List.{append-nil, take_more, map-append, length-take-le}
 use Rattle.cd_pairing.specs.Records.{Record, pair, single, records, records_from}
 use Rattle.cd_ident.specs.Events.{EventParts}
 use Rattle.cd_top.specs.Exchanges.{exchange_of, exchanges}
-use Rattle.cd_top.specs.declared.exchange.Exchange.{Exchange}
 
 -- a record in front of both parts
 led : (b : Bool) (r : Record) (all front back : List Record) → all ≡ front ++ back → cond b (r ∷ all) all ≡ cond b (r ∷ front) front ++ back

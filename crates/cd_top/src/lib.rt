@@ -9,6 +9,14 @@
 //!
 //! The way of the data: bytes, packets and their events (`gathering`, `intake`), the exchanges of the events
 //! (`event_writing`), their block (`tables`, `intern`), its spelling (`block_writing`, `spelling`), the file (`file_writing`).
+//! - A *query* is one event of a capture: a packet whose DNS message is a header alone (`query`).
+//! - An *exchange* is a query with its response, or one of the two alone, each of which is a *half* (`exchange`).
+//! - A *block* holds all exchanges, with its *tables*, in which each address and each *signature* stands once (`tables`).
+//! - The *file* is its beginning, the block where there is an event, and its end (`file_writing`), in CBOR (`spelling`). The
+//!   file of some events is that of their exchanges (`event_writing`).
+//!
+//! The way of the data: bytes, packets and their queries (`gathering`, `intake`, `capture_reader`, `record`), the block of
+//! the exchanges (`tables`, `intern`), its spelling (`block_writing`, `spelling`), the file (`file_writing`).
 #![tactic(auto)]
 
 mod block;

@@ -1,6 +1,3 @@
-use Rattle.std.proofs.Common.{◌≡◌, ◌∙◌, map, length, ap}
-use Rattle.cd_ident.specs.Keys.{parts_of}
-use Rattle.cd_top.specs.Exchanges.{exchanges}
 use Rattle.cd_top.specs.Filing.{default_windows}
 use Rattle.cd_top.proofs.OneFile.{file_step}
 use Rattle.cd_top.proofs.event_writing.write_events.Goals as goal

@@ -1,8 +1,7 @@
 -- Each position gives its exchange, or none where it is the second of a pair.
-use Rattle.std.proofs.Common.{◌≡◌, List, map, ap, sym, ◌∙◌, ◌∷◌, [], ◌++◌, arith}
+use Rattle.std.proofs.Common.{List, map, ap, sym, ◌∙◌}
 use Rattle.cd_ident.specs.Keys.{parts_of}
 use Rattle.cd_ident.specs.Events.{EventParts}
-use Rattle.cd_top.specs.declared.exchange.Exchange.{Exchange}
 use Rattle.cd_top.proofs.Partners.{exchanges-single, exchanges-pair, exchanges-second, pushed}
 use Rattle.cd_top.proofs.exchange.exchanges_of.Goals as goal
 use Rattle.cd_top.proofs.exchange.exchanges_of.Goals.{in-None+in_ok-push-in-None, in-Some+then-place-other+in_ok-push-in-Some, in-Some+else-place-other}

@@ -1,5 +1,4 @@
-use Rattle.std.proofs.Common.{◌≡◌, ◌≤◌, ◌∙◌, ◌+◌, length, None, refl, ap, sym, arith}
-use Rattle.cd_top.specs.Integers.{integer_entry}
+use Rattle.std.proofs.Common.{None, refl, arith}
 use Rattle.cd_top.specs.Tree.{present}
 use Rattle.cd_top.proofs.Elements.{present_count-more, entry_count-few}
 use Rattle.cd_top.proofs.spelling.present_count.Goals as goal
