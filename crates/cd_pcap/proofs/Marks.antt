@@ -1,7 +1,7 @@
 -- Whole records, before and behind the mark.
-use Rattle.std.proofs.Common.{◌≡◌, ℕ, zero, suc, ◌+◌, ◌-◌, ◌<◌, ◌≤◌, Some, None, Option, List, [], ◌∷◌, ◌++◌, length, take, drop, refl, ap, sym, ◌∙◌, subst, arith, inl, inr, length-append}
+use Rattle.std.proofs.Common.{◌≡◌, ℕ, zero, suc, ◌+◌, ◌-◌, ◌<◌, ◌≤◌, Some, None, Option, List, [], ◌∷◌, ◌++◌, length, take, drop, refl, ap, sym, ◌∙◌, arith, inl, inr, length-append}
 use Rattle.std.proofs.lemmas.Bool.{cases_lt}
-use Rattle.std.proofs.lemmas.List.{append-nil, length-take-le, take-append-drop, drop-take, drop_all, length-drop}
+use Rattle.std.proofs.lemmas.List.{append-nil, length-take-le, take-append-drop, drop-take, drop_all}
 use Rattle.std.proofs.Math.Seq.{take-add}
 use Rattle.std.specs.Prelude.{IsSome}
 use Rattle.cd_packet.specs.Capture.{Capture, after}
@@ -120,13 +120,6 @@ begins_whole link at whole bytes within some h =
       within = fits;
       others = ap (λ t. (records link 0 (at + size) t).end) (sym others) ∙ end_at _ _ _ behind h;
     }
-
--- the first record that is held before the mark, where the bytes held begin among others
-pub front_whole : (link : Option ℕ) (l at whole start : ℕ) (bytes : List ℕ) → link ≡ Some l → start + whole ≤ length bytes → 0 < whole →
-    AreWhole link at (take whole (drop start bytes)) → BeginsWhole l at (16 + captured_length (drop start bytes)) whole (drop start bytes)
-front_whole link l at whole start bytes is within some h =
-    let P : Option ℕ → Type 0 = λ o. AreWhole o at (take whole (drop start bytes)) in
-    begins_whole l at whole (drop start bytes) (omega (arith, length-drop start bytes)) some (subst P is h)
 
 -- what holds behind a header of any link type holds behind this one
 pub behind_header : (P : Option ℕ → Type 0) (link : Option ℕ) → IsSome link → ((l : ℕ) → P (Some l)) → P link

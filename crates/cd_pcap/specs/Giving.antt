@@ -1,6 +1,7 @@
 -- What the reader of a capture answers.
 use Rattle.std.specs.Prelude.{◌≡◌, ℕ, ◌+◌, ◌<◌, List, [], ◌∷◌, ◌++◌, length, take, Option, Some, None, Result, Ok, Err, ⊤}
 use Rattle.std.specs.declared.alloc.AllocError.{AllocError}
+use Rattle.cd_packet.specs.declared.capture.BadCapture.{BadCapture}
 use Rattle.cd_packet.specs.declared.capture.FeedFault.{FeedFault}
 use Rattle.cd_packet.specs.declared.capture.FeedFault.TheVariants.{Bad, NoMemory}
 use Rattle.cd_packet.specs.declared.packet.Packet.{Packet}
@@ -12,6 +13,10 @@ abbrev pub Feeds : {U : Type 0} → Kept → List ℕ → List Packet → Result
 Feeds new fed given (Ok u) = StandsFor new fed given × (refusal_of fed ≡ None)
 Feeds new fed given (Err (Bad bad)) = StandsFor new fed given × (refusal_of fed ≡ Some bad)
 Feeds new fed given (Err NoMemory) = ⊤
+
+-- Where the bytes fed before held a refused place, it is the answer again, for which no memory is wanted.
+abbrev pub RefusesAgain : {U : Type 0} → Kept → Result U FeedFault → Type 0
+RefusesAgain old result = (fed : List ℕ) (given : List Packet) (bad : BadCapture) → StandsFor old fed given → refusal_of fed ≡ Some bad → result ≡ Err (Bad bad)
 
 -- So many bytes more were fed, or no memory was found and nothing changed.
 abbrev pub Counts : {U : Type 0} → Kept → Kept → ℕ → Result U FeedFault → Type 0

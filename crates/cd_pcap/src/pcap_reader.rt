@@ -36,14 +36,14 @@ impl Model for PcapReader {
 
     ghost view = { λ r. record { fed_count = r.fed_count; held = drop r.start r.bytes.items; at = r.at; whole = r.whole; link = r.link; refused = r.refused } };
 
-    ghost invariant = { λ r. (r.start + r.whole ≤ length r.bytes.items) × (r.at + (length r.bytes.items - r.start) ≤ r.fed_count) × (r.fed_count ≤ 2 ^ 48) × AreWhole r.link r.at (take r.whole (drop r.start r.bytes.items)) };
+    ghost invariant = { λ r. record { within : r.start + r.whole ≤ length r.bytes.items; counted : r.at + (length r.bytes.items - r.start) ≤ r.fed_count; few : r.fed_count ≤ 2 ^ 48; marked : AreWhole r.link r.at (take r.whole (drop r.start r.bytes.items)) } };
 }
 
 impl PcapReader {
     ghost use Rattle.cd_packet.specs.Pcap.{pcap};
     ghost use Rattle.cd_packet.specs.declared.packet.Packet.{Packet};
     ghost use Rattle.cd_pcap.specs.Reading.{Kept, HasRead, StandsFor};
-    ghost use Rattle.cd_pcap.specs.Giving.{Feeds, Counts, Gives, Shrinks};
+    ghost use Rattle.cd_pcap.specs.Giving.{Feeds, RefusesAgain, Counts, Gives, Shrinks};
 
     /// A reader that was fed nothing.
     pub fn new(alloc: Global) -> PcapReader
@@ -146,6 +146,7 @@ impl PcapReader {
     pub fn feed(&mut self, piece: &[u8]) -> Result<(), FeedFault>
         requires { self.old.fed_count + length piece.now ≤ 2 ^ 48 }
         ensures history { (fed : List ℕ) (given : List Packet) → StandsFor self.old fed given → Feeds self.new (fed ++ piece.now) given result }
+        ensures again { RefusesAgain self.old result }
         ensures count { Counts self.old self.new (length piece.now) result }
     {
         if let Some(bad) = self.refused {

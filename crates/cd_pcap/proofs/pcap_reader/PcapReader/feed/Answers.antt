@@ -24,3 +24,18 @@ returns-clause-history c = λ fed given h.
       | in-None w ↦ rw w.result-is (stands, known ∙ w.in-None.is)
       | in-Some-refused w ↦ rw w.result-is (stands, known ∙ w.in-Some-refused.is)
     ]
+
+pub returns-in-Some-clause-again : goal.returns-in-Some-clause-again
+returns-in-Some-clause-again c = λ fed given bad h e.
+    let refused = refusal_known _ fed given (sound_inside c.self.inside c.self.invariant) (rw c.self.view_is h) in
+    cc (refused, c.in-Some.is, e)
+
+pub returns-in-Err-clause-again : goal.returns-in-Err-clause-again
+returns-in-Err-clause-again c = λ fed given bad h e.
+    let refused = refusal_known _ fed given (sound_inside c.self.inside c.self.invariant) (rw c.self.view_is h) in
+    cc (refused, c.in_default.is, e)
+
+pub returns-clause-again : goal.returns-clause-again
+returns-clause-again c = λ fed given bad h e.
+    let refused = refusal_known _ fed given (sound_inside c.self.inside c.self.invariant) (rw c.self.view_is h) in
+    cc (refused, c.in_default.is, e)

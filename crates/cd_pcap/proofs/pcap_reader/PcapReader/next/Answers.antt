@@ -1,8 +1,7 @@
-use Rattle.std.proofs.Common.{◌<◌, arith}
+use Rattle.std.proofs.Common.{arith}
 use Rattle.std.proofs.lemmas.List.{drop-drop, take_rest}
-use Rattle.cd_pcap.proofs.Marks.{front_whole}
 use Rattle.cd_pcap.proofs.Standing.{all_given, header_first, packet_passed}
-use Rattle.cd_pcap.proofs.Inside.{sound_inside}
+use Rattle.cd_pcap.proofs.Inside.{first_inside, passed_inside, sound_inside}
 use Rattle.cd_pcap.proofs.pcap_reader.PcapReader.next.Goals as goal
 
 pub returns-in-None-clause-history : goal.returns-in-None-clause-history
@@ -18,55 +17,42 @@ returns-then-self-eq0-clause-history c =
 
 pub packet_of-requires : goal.packet_of-requires
 packet_of-requires c =
-    let some : 0 < c.self.inside.whole = omega arith in
-    let b = front_whole _ c.in-Some.link _ _ _ _ c.in-Some.is c.self.invariant.0 some c.self.invariant.3 in
+    let b = first_inside c.self.inside c.in-Some.link c.self.invariant c.in-Some.is (omega arith) in
     rw (c.deref.ensures.value, take_rest) b.first.whole
 
 pub record_size-size-requires : goal.record_size-size-requires
 record_size-size-requires c =
-    let some : 0 < c.self.inside.whole = omega arith in
-    let b = front_whole _ c.in-Some.link _ _ _ _ c.in-Some.is c.self.invariant.0 some c.self.invariant.3 in
+    let b = first_inside c.self.inside c.in-Some.link c.self.invariant c.in-Some.is (omega arith) in
     rw (c.deref.ensures.value, take_rest) (omega (arith, b.first.whole))
 
 pub overflow_add-self : goal.overflow_add-self
 overflow_add-self c =
-    let some : 0 < c.self.inside.whole = omega arith in
-    let b = front_whole _ c.in-Some.link _ _ _ _ c.in-Some.is c.self.invariant.0 some c.self.invariant.3 in
     let is = rw (c.deref.ensures.value, take_rest) at c.record_size-size.ensures in
-    omega (arith, is, b.within, c.self.invariant.0, c.self.invariant.1, c.self.invariant.2)
+    let b = first_inside c.self.inside c.in-Some.link c.self.invariant c.in-Some.is (omega arith) in
+    omega (arith, is, b.within, c.self.invariant.within)
 
 pub overflow_add-self-2 : goal.overflow_add-self-2
 overflow_add-self-2 c =
-    let some : 0 < c.self.inside.whole = omega arith in
-    let b = front_whole _ c.in-Some.link _ _ _ _ c.in-Some.is c.self.invariant.0 some c.self.invariant.3 in
     let is = rw (c.deref.ensures.value, take_rest) at c.record_size-size.ensures in
-    omega (arith, is, b.within, c.self.invariant.0, c.self.invariant.1, c.self.invariant.2)
+    let b = first_inside c.self.inside c.in-Some.link c.self.invariant c.in-Some.is (omega arith) in
+    omega (arith, is, b.within, c.self.invariant.within, c.self.invariant.counted, c.self.invariant.few)
 
 pub overflow_sub-self : goal.overflow_sub-self
 overflow_sub-self c =
-    let some : 0 < c.self.inside.whole = omega arith in
-    let b = front_whole _ c.in-Some.link _ _ _ _ c.in-Some.is c.self.invariant.0 some c.self.invariant.3 in
     let is = rw (c.deref.ensures.value, take_rest) at c.record_size-size.ensures in
+    let b = first_inside c.self.inside c.in-Some.link c.self.invariant c.in-Some.is (omega arith) in
     omega (arith, is, b.within)
 
 pub invariant_of-self : goal.invariant_of-self
 invariant_of-self c =
-    let some : 0 < c.self.inside.whole = omega arith in
-    let b = front_whole _ c.in-Some.link _ _ _ _ c.in-Some.is c.self.invariant.0 some c.self.invariant.3 in
     let is = rw (c.deref.ensures.value, take_rest) at c.record_size-size.ensures in
-    let others = rw (← is, drop-drop) at b.others in (
-      omega (arith, is, b.within, c.self.invariant.0),
-      omega (arith, is, b.within, c.self.invariant.0, c.self.invariant.1),
-      c.self.invariant.2,
-      rw c.in-Some.is others,
-    )
+    let b = first_inside c.self.inside c.in-Some.link c.self.invariant c.in-Some.is (omega arith) in
+    passed_inside c.self.inside c.in-Some.link c.record_size-size.result c.self.invariant c.in-Some.is (rw is b)
 
 pub returns-clause-history : goal.returns-clause-history
 returns-clause-history c =
-    let some : 0 < c.self.inside.whole = omega arith in
-    let b = front_whole _ c.in-Some.link _ _ _ _ c.in-Some.is c.self.invariant.0 some c.self.invariant.3 in
     let is = rw (c.deref.ensures.value, take_rest) at c.record_size-size.ensures in
     let packet = rw (c.deref.ensures.value, take_rest) at c.in_ok-packet.ensures in
-    let first = rw (← is) at b.first in
+    let b = rw (← is) at (first_inside c.self.inside c.in-Some.link c.self.invariant c.in-Some.is (omega arith)) in
     rw (← c.self.view_is, ← drop-drop c.record_size-size.result c.self.inside.start c.self.inside.bytes.items)
-    (packet_passed _ c.in-Some.link c.record_size-size.result c.in_ok-packet.packet c.in-Some.is first (omega (arith, is, b.within)) packet)
+    (packet_passed _ c.in-Some.link c.record_size-size.result c.in_ok-packet.packet c.in-Some.is b.first b.within packet)
