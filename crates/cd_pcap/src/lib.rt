@@ -3,7 +3,7 @@
 //! - A *capture* is a header and records, one a packet; what it holds is the definition `pcap` of `cd_packet`. So far it is
 //!   in little-endian order with microseconds (the pcap draft, 4 and 5).
 //! - A `PcapReader` is *fed* the bytes of a capture, cut into any pieces, and gives the packets that came whole.
-//! - The *mark* stands behind the whole records that came. It moves as bytes are fed, and no record is looked at twice.
+//! - The *mark* stands behind the whole records that came. As bytes are fed it moves over their headers, each once.
 //! - A *refused place* is a header or a record that no capture can have. Nothing is read behind it.
 //!
 //! An example: a reader is fed a header of 24 bytes, and the first 20 bytes of a record. It gives no packet, and the bytes
