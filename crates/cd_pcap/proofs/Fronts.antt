@@ -12,11 +12,13 @@ use Rattle.cd_packet.proofs.Records.{records-none, records-short, records-cut, r
 use Rattle.cd_pcap.specs.Fronts.{HasHeader, HasRecord}
 use Rattle.cd_pcap.specs.Reading.{AreOpen, AreRefused}
 
+-- four bytes within a front have the number that they have in the whole
 pub le32-take : (at n : ℕ) (bytes : List ℕ) → at + 4 ≤ n → n ≤ length bytes → le32 at (take n bytes) ≡ le32 at bytes
 le32-take at n bytes within long =
     let size : length (take n bytes) ≡ n = length-take-le n bytes long in
     sym (le32-append at (take n bytes) (drop n bytes) (omega arith)) ∙ ap (λ t. le32 at t) (take-append-drop n bytes)
 
+-- two bytes within a front have theirs
 pub le16-take : (at n : ℕ) (bytes : List ℕ) → at + 2 ≤ n → n ≤ length bytes → le16 at (take n bytes) ≡ le16 at bytes
 le16-take at n bytes within long =
     let size : length (take n bytes) ≡ n = length-take-le n bytes long in

@@ -14,9 +14,11 @@ use Rattle.cd_pcap.proofs.Standing.{IsSound, header_first}
 abbrev pub held_in : Inside → List ℕ
 held_in r = drop r.start r.bytes.items
 
+-- how many bytes are held
 held_count : (r : Inside) → length (held_in r) ≡ length r.bytes.items - r.start
 held_count r = length-drop r.start r.bytes.items
 
+-- the invariant keeps what is held sound
 pub sound_inside : (r : Inside) → the_invariant r → IsSound (the_view r)
 sound_inside r h = record { within = omega (arith, h.within, held_count r); marked = h.marked }
 

@@ -99,6 +99,7 @@ pub record BeginsWhole (link at size whole : ℕ) (bytes : List ℕ) : Type 0 wh
   pub within : size ≤ whole
   pub others : AreWhole (Some link) (at + size) (take (whole - size) (drop size bytes))
 
+-- whole records that have a byte begin so
 pub begins_whole : (link at whole : ℕ) (bytes : List ℕ) → whole ≤ length bytes → 0 < whole → AreWhole (Some link) at (take whole bytes) →
     BeginsWhole link at (16 + captured_length bytes) whole bytes
 begins_whole link at whole bytes within some h =

@@ -20,11 +20,13 @@ use Rattle.cd_pcap.specs.Reading.{refusal_in, refusal_of}
 use Rattle.cd_pcap.proofs.Fronts.{le32-take, pcap-header}
 use Rattle.cd_pcap.proofs.Marks.{end_at}
 
+-- an end with a refused place is that place
 refusal_told : (e : EndState) (bad : BadCapture) → refusal_in e ≡ Some bad → e ≡ Bad bad
 refusal_told Whole bad h = absurd cc
 refusal_told Cut bad h = absurd cc
 refusal_told (Bad b) bad h = cc
 
+-- a refused place is told only where there are four bytes
 refusal_chosen : (few : Bool) (e : EndState) (bad : BadCapture) → cond few None (refusal_in e) ≡ Some bad → (few ≡ false) × (e ≡ Bad bad)
 refusal_chosen true e bad h = absurd cc
 refusal_chosen false e bad h = (refl, refusal_told e bad h)
@@ -41,6 +43,7 @@ refusal-end bytes bad h =
     let k = refusal_chosen (nat_lt (length bytes) 4) (pcap bytes).end bad h in
     (ltb-false (length bytes) 4 k.0, k.1)
 
+-- a refused place stays
 pub refusals_kept : RefusalsStay
 refusals_kept fed more bad h =
     let k = refusal-end fed bad h in
@@ -49,6 +52,7 @@ refusals_kept fed more bad h =
     ap (λ (c : Capture). c.end) g.packets ∙ ap (λ (c : Capture). c.end) (g.refused bad k.1) ∙ k.1 in
     refusal-many (fed ++ more) (omega (arith, length-append fed more)) ∙ ap refusal_in end
 
+-- the same end is at the same place
 place_told : (a b : BadCapture) → Bad a ≡ Bad b → a.at ≡ b.at
 place_told a b e = let same : a ≡ b = cc in ap (λ (c : BadCapture). c.at) same
 
@@ -60,6 +64,7 @@ record HasBefore (link inside at : ℕ) (bytes : List ℕ) (bad : BadCapture) : 
   pub within : size ≤ length bytes
   pub packets : (records link inside at (take size bytes)).packets ≡ (records link inside at bytes).packets
 
+-- the records before a refused place have all packets
 records-before : (link inside at : ℕ) (bytes : List ℕ) (bad : BadCapture) → (records link inside at bytes).end ≡ Bad bad → HasBefore link inside at bytes bad
 unfolding records
 records-before link zero at [] bad h = absurd cc
@@ -109,6 +114,7 @@ none_before : (bytes : List ℕ) (bad : BadCapture) (c : Capture) → pcap bytes
 none_before bytes bad c is none start =
     ap (λ k. (pcap (take k bytes)).packets) start ∙ ap (λ (d : Capture). d.packets) pcap-none ∙ sym none ∙ sym (ap (λ (d : Capture). d.packets) is)
 
+-- the bytes before a refused place have all packets
 pub packets_before : PacketsStandBefore
 packets_before bytes bad h =
     elim (cases_Bool (is_little_micro bytes)) [
@@ -136,6 +142,7 @@ packets_before bytes bad h =
       ]
     ]
 
+-- a choice that is none either way
 none_chosen : (few : Bool) (o : Option BadCapture) → (few ≡ false → o ≡ None) → cond few None o ≡ None
 none_chosen true o h = refl
 none_chosen false o h = h refl

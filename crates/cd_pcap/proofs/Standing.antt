@@ -95,6 +95,7 @@ open_unrefused None held many = rw (le-ltb (length held) 4 (many refl)) refl
 open_unrefused (Some link) [] many = refl
 open_unrefused (Some link) (b ∷ held) many = refl
 
+-- the refused place, from what stands behind the mark
 known_behind : (refused : Option BadCapture) (link : Option ℕ) (at : ℕ) (held behind fed : List ℕ) → StandsBehind refused link at held behind →
     end_behind refused link held ≡ (pcap fed).end → length behind ≤ length fed → (link ≡ None → length fed ≡ length held + length behind) → refusal_of fed ≡ refused
 known_behind None link at held behind fed h end within all =
