@@ -1,6 +1,6 @@
 //! Captures, given at once and one byte a call: how the run ends, and its file.
 
-use super::sample::{BLOCK, HEADER, QUERY, compacted, file_with, joined, sound_sink};
+use super::sample::{BLOCK, HEADER, PAIR, QUERY, RESPONSE, compacted, file_with, joined, sound_sink};
 use crate::Status;
 use cd_name::{Blob, List};
 use cd_packet::{BadCapture, CaptureWhy};
@@ -14,11 +14,11 @@ const VERSION_THREE: [u8; 24] = [
     0xd4, 0xc3, 0xb2, 0xa1, 3, 0, 4, 0, 0, 0, 0, 0, 0, 0, 0, 0, 0, 0, 4, 0, 1, 0, 0, 0,
 ];
 
-// The query with QR and RA set.
-const RESPONSE: [u8; 70] = [
+// The query with a count of one question.
+const QUESTION: [u8; 70] = [
     0x00, 0xf1, 0x53, 0x65, 0xa0, 0x86, 0x01, 0x00, 54, 0, 0, 0, 54, 0, 0, 0, 0x02, 0, 0, 0, 0,
     0x01, 0x02, 0, 0, 0, 0, 0x02, 0x08, 0x00, 0x45, 0, 0, 40, 0, 0, 0, 0, 64, 17, 0, 0, 192, 0, 2,
-    77, 192, 0, 2, 53, 0x9c, 0x40, 0, 53, 0, 20, 0, 0, 0x1a, 0x2b, 0x81, 0x80, 0, 0, 0, 0, 0, 0, 0,
+    77, 192, 0, 2, 53, 0x9c, 0x40, 0, 53, 0, 20, 0, 0, 0x1a, 0x2b, 0x01, 0x00, 0, 1, 0, 0, 0, 0, 0,
     0,
 ];
 
@@ -53,12 +53,13 @@ fn gives(alloc: Global, bytes: &[u8], status: Status, blocks: &[u8]) -> Result<b
 fn a_capture_gives_its_file(rt: HostRuntime) -> Result<(), AllocError> {
     let alloc = rt.alloc();
     let none = &QUERY[..0];
-    let rows: [(&str, &[u8], &[u8], &[u8], &[u8]); 5] = [
+    let rows: [(&str, &[u8], &[u8], &[u8], &[u8]); 6] = [
         ("a header", &HEADER, none, none, none),
         ("half a header", &HEADER[..12], none, none, none),
         ("a query", &HEADER, &QUERY, none, &BLOCK),
         ("a cut query", &HEADER, &QUERY[..69], none, none),
         ("one and a cut one", &HEADER, &QUERY, &QUERY[..15], &BLOCK),
+        ("a query and its response", &HEADER, &QUERY, &RESPONSE, PAIR),
     ];
     for (name, header, first, second, blocks) in rows {
         let capture = joined(alloc, &[header, first, second])?;
@@ -81,8 +82,8 @@ fn a_run_stops_at_a_place(rt: HostRuntime) -> Result<(), AllocError> {
         (magic, none, none, none, none),
         (version, &VERSION_THREE, &QUERY, none, none),
         (too_long, &HEADER, &TOO_LONG, none, none),
-        (first, &HEADER, &RESPONSE, none, none),
-        (second, &HEADER, &QUERY, &RESPONSE, &BLOCK),
+        (first, &HEADER, &QUESTION, none, none),
+        (second, &HEADER, &QUERY, &QUESTION, &BLOCK),
     ];
     for (status, header, first, second, blocks) in rows {
         let capture = joined(alloc, &[header, first, second])?;

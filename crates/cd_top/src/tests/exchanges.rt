@@ -3,7 +3,7 @@
 ghost use Rattle.std.specs.Prelude.{◌≡◌, ◌<◌};
 ghost use Rattle.cd_packet.specs.Time.{end_of_time};
 
-use super::sample::{BLOCK, file_with, sound_sink};
+use super::sample::{BLOCK, PAIR, file_with, sound_sink};
 use crate::event_writing::{each_list_has_one_file, write_events};
 use cd_ident::{Event, EventRules, event_of};
 use cd_packet::{Addr, Dgram};
@@ -26,13 +26,6 @@ const LATER: u64 = 1_700_000_000_120_000_000;
 
 // 8 microseconds later.
 const SOON: u64 = 1_700_000_000_100_008_000;
-
-// The query, and the response 20 ms later.
-const PAIR: &[u8] = b"\xa4\x00\xa1\x00\x82\x1a\x65\x53\xf1\x00\x1a\x00\x01\x86\xa0\
-    \x01\xa6\x00\x02\x01\x01\x02\x00\x03\x00\x04\x00\x05\x00\
-    \x02\xa2\x00\x82\x44\xc0\x00\x02\x4d\x44\xc0\x00\x02\x35\
-    \x03\x81\xac\x00\x01\x01\x18\x35\x02\x00\x04\x18\x33\x05\x00\x06\x19\x18\x10\x07\x00\x09\x00\x0a\x00\x0b\x00\x0c\x00\x10\x00\
-    \x03\x81\xa9\x00\x00\x01\x00\x02\x19\x9c\x40\x03\x19\x1a\x2b\x04\x00\x05\x18\x40\x06\x19\x4e\x20\x08\x0c\x09\x0c";
 
 // The response, and the query 8 microseconds later.
 const PAIR_OF_LATE_QUERY: &[u8] = b"\xa4\x00\xa1\x00\x82\x1a\x65\x53\xf1\x00\x1a\x00\x01\x86\xa8\

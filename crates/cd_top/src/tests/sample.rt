@@ -1,4 +1,4 @@
-//! What the tests share: a capture of one query, the parts of its file, sinks and words.
+//! What the tests share: a query and its response as records of a capture, the parts of their files, sinks and words.
 
 use crate::{Status, run_plain};
 use cd_name::{Blob, List};
@@ -22,6 +22,14 @@ pub const QUERY: [u8; 70] = [
     0,
 ];
 
+/// A record of 70 bytes: the response to the query, 20 ms later, with the flags QR, RD and RA.
+pub const RESPONSE: [u8; 70] = [
+    0x00, 0xf1, 0x53, 0x65, 0xc0, 0xd4, 0x01, 0x00, 54, 0, 0, 0, 54, 0, 0, 0, 0x02, 0, 0, 0, 0,
+    0x02, 0x02, 0, 0, 0, 0, 0x01, 0x08, 0x00, 0x45, 0, 0, 40, 0, 0, 0, 0, 64, 17, 0, 0, 192, 0, 2,
+    53, 192, 0, 2, 77, 0, 53, 0x9c, 0x40, 0, 20, 0, 0, 0x1a, 0x2b, 0x81, 0x80, 0, 0, 0, 0, 0, 0, 0,
+    0,
+];
+
 /// The file up to its blocks.
 pub const BEGINNING: [u8; 60] = [
     0x83, 0x65, 0x43, 0x2d, 0x44, 0x4e, 0x53, 0xa3, 0x00, 0x01, 0x01, 0x00, 0x03, 0x81, 0xa2, 0x00,
@@ -39,6 +47,13 @@ pub const BLOCK: [u8; 91] = [
     0x00, 0x0b, 0x00, 0x0c, 0x00, 0x03, 0x81, 0xa7, 0x00, 0x00, 0x01, 0x00, 0x02, 0x19, 0x9c, 0x40,
     0x03, 0x19, 0x1a, 0x2b, 0x04, 0x00, 0x05, 0x18, 0x40, 0x08, 0x0c,
 ];
+
+/// The block of the query and its response.
+pub const PAIR: &[u8] = b"\xa4\x00\xa1\x00\x82\x1a\x65\x53\xf1\x00\x1a\x00\x01\x86\xa0\
+    \x01\xa6\x00\x02\x01\x01\x02\x00\x03\x00\x04\x00\x05\x00\
+    \x02\xa2\x00\x82\x44\xc0\x00\x02\x4d\x44\xc0\x00\x02\x35\
+    \x03\x81\xac\x00\x01\x01\x18\x35\x02\x00\x04\x18\x33\x05\x00\x06\x19\x18\x10\x07\x00\x09\x00\x0a\x00\x0b\x00\x0c\x00\x10\x00\
+    \x03\x81\xa9\x00\x00\x01\x00\x02\x19\x9c\x40\x03\x19\x1a\x2b\x04\x00\x05\x18\x40\x06\x19\x4e\x20\x08\x0c\x09\x0c";
 
 /// The pieces, one after the other.
 pub fn joined(alloc: Global, pieces: &[&[u8]]) -> Result<Vec<u8>, AllocError> {
