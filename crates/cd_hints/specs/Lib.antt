@@ -1,0 +1,5 @@
+pub mod Options
+pub mod Listing
+pub mod Settings
+pub mod Validity
+pub mod Prefix

@@ -1,0 +1,61 @@
+//! The settings of a compaction.
+
+ghost use Rattle.std.specs.Prelude.{◌≡◌, IfOk};
+ghost use Rattle.cd_hints.specs.Settings.{default_settings};
+ghost use Rattle.cd_hints.specs.Validity.{IsValid};
+
+use crate::listing::{opcodes_of, types_of};
+use crate::options::{ListOption, NumberOption};
+use cd_block::{Hints, Params};
+use std::alloc::{AllocError, Global};
+
+/// The settings of a compaction: what the file says in its parameters, and the limits of the run.
+#[derive(Debug, Drop)]
+pub struct Settings {
+    pub params: Params,
+    /// Events that may wait at once.
+    pub window: u64,
+    /// The weight of the events that may wait at once.
+    pub window_bytes: u64,
+    /// The weight of the events of a block.
+    pub block_bytes: u64,
+    /// The port of DNS.
+    pub port: u16,
+    /// The number of workers.
+    pub workers: u32,
+    /// Bytes of the input that are read.
+    pub max_input: u64,
+}
+
+/// The settings where no option is given. An `Err` is for want of memory.
+#[tactic(auto, using(crate::proofs::Listed::listed_below_ascends))]
+pub fn default_settings(alloc: Global) -> Result<Settings, AllocError>
+    ensures defaults { IfOk result (λ settings. settings ≡ default_settings) }
+    ensures valid { IfOk result IsValid }
+{
+    let rr_types = types_of(alloc, ListOption::RrTypes.default())?;
+    Ok(Settings {
+        params: Params {
+            ticks: NumberOption::Ticks.default(),
+            max_items: NumberOption::BlockItems.default(),
+            hints: Hints {
+                qr: NumberOption::QrHints.default() as u32,
+                sig: NumberOption::SigHints.default() as u32,
+                rr: NumberOption::RrHints.default() as u8,
+                other: NumberOption::OtherHints.default() as u8,
+            },
+            opcodes: opcodes_of(ListOption::Opcodes.default()),
+            rr_types,
+            flags: 0,
+            prefixes: [None; 4],
+            query_ms: Some(NumberOption::QueryTimeout.default()),
+            skew_us: Some(NumberOption::SkewTimeout.default()),
+        },
+        window: NumberOption::Window.default(),
+        window_bytes: NumberOption::WindowBytes.default(),
+        block_bytes: NumberOption::BlockBytes.default(),
+        port: NumberOption::Port.default() as u16,
+        workers: NumberOption::Workers.default() as u32,
+        max_input: NumberOption::MaxInput.default(),
+    })
+}
