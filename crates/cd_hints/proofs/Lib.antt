@@ -1,3 +1,4 @@
 mod Ascending
 mod Listed
 mod HintBits
+mod EachOption

@@ -1,5 +1,5 @@
--- The settings where no option is given.
-use Rattle.std.specs.Prelude.{ℕ, nat_eq, if◌then◌else◌, Option, Some, None, [], ◌∷◌}
+-- The settings where no option is given, and where the number of an option is put in.
+use Rattle.std.specs.Prelude.{ℕ, nat_eq, if◌then◌else◌, Option, Some, None, [], ◌∷◌, slice_set}
 use Rattle.cd_block.specs.declared.hints.Hints.{Hints}
 use Rattle.cd_block.specs.declared.params.Params.{Params}
 use Rattle.cd_hints.specs.declared.settings.Settings.{Settings}
@@ -48,3 +48,36 @@ default_settings = record {
   workers = option_default Workers;
   max_input = option_default MaxInput;
 }
+
+-- the settings with other parameters
+abbrev pub with_params : Params → Settings → Settings
+with_params params s = record s { params = params }
+
+-- the settings with other hints
+abbrev pub with_hints : Hints → Settings → Settings
+with_hints hints s = record s { params = record s.params { hints = hints } }
+
+-- the settings with the prefix of an option at its place
+abbrev pub with_prefix : ℕ → NumberOption → ℕ → Settings → Settings
+with_prefix place option bits s = record s { params = record s.params { prefixes = slice_set s.params.prefixes place (stored_prefix option bits) } }
+
+-- the settings with the number of an option in the field that it stands for
+abbrev pub with_number : NumberOption → ℕ → Settings → Settings
+with_number Workers n s = record s { workers = n }
+with_number Ticks n s = with_params (record s.params { ticks = n }) s
+with_number QueryTimeout n s = with_params (record s.params { query_ms = Some n }) s
+with_number SkewTimeout n s = with_params (record s.params { skew_us = Some n }) s
+with_number Window n s = record s { window = n }
+with_number WindowBytes n s = record s { window_bytes = n }
+with_number BlockItems n s = with_params (record s.params { max_items = n }) s
+with_number BlockBytes n s = record s { block_bytes = n }
+with_number QrHints n s = with_hints (record s.params.hints { qr = n }) s
+with_number SigHints n s = with_hints (record s.params.hints { sig = n }) s
+with_number RrHints n s = with_hints (record s.params.hints { rr = n }) s
+with_number OtherHints n s = with_hints (record s.params.hints { other = n }) s
+with_number ClientPrefix4 n s = with_prefix 0 ClientPrefix4 n s
+with_number ClientPrefix6 n s = with_prefix 1 ClientPrefix6 n s
+with_number ServerPrefix4 n s = with_prefix 2 ServerPrefix4 n s
+with_number ServerPrefix6 n s = with_prefix 3 ServerPrefix6 n s
+with_number Port n s = record s { port = n }
+with_number MaxInput n s = record s { max_input = n }

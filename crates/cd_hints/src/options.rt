@@ -1,6 +1,8 @@
 //! The options of `compact`: a table of names, intervals and defaults.
 
-ghost use Rattle.std.specs.Prelude.{◌≡◌, ◌↔◌, IsTrue};
+ghost use Rattle.std.specs.Prelude.{◌≡◌, ◌≢◌, ◌↔◌, All, IsTrue, MatchOption};
+ghost use Rattle.cd_hints.specs.declared.options.NumberOption.{NumberOption};
+ghost use Rattle.cd_hints.specs.declared.options.ListOption.{ListOption};
 ghost use Rattle.cd_hints.specs.Options.{name_of, option_range, option_default, list_name_of, list_range, list_default, IsAllowed, Admits};
 
 use crate::interval::Interval;
@@ -56,6 +58,29 @@ pub enum ListOption {
     RrTypes,
 }
 
+static NUMBER_OPTIONS: [NumberOption; 18] = [
+    NumberOption::Workers,
+    NumberOption::Ticks,
+    NumberOption::QueryTimeout,
+    NumberOption::SkewTimeout,
+    NumberOption::Window,
+    NumberOption::WindowBytes,
+    NumberOption::BlockItems,
+    NumberOption::BlockBytes,
+    NumberOption::QrHints,
+    NumberOption::SigHints,
+    NumberOption::RrHints,
+    NumberOption::OtherHints,
+    NumberOption::ClientPrefix4,
+    NumberOption::ClientPrefix6,
+    NumberOption::ServerPrefix4,
+    NumberOption::ServerPrefix6,
+    NumberOption::Port,
+    NumberOption::MaxInput,
+];
+
+static LIST_OPTIONS: [ListOption; 2] = [ListOption::Opcodes, ListOption::RrTypes];
+
 static DEFAULT_OPCODES: [Interval; 1] = [Interval { least: 0, most: 6 }];
 
 static DEFAULT_RR_TYPES: [Interval; 2] = [
@@ -69,7 +94,21 @@ static DEFAULT_RR_TYPES: [Interval; 2] = [
     },
 ];
 
+/// The first of some options with a name.
+fn first_named(options: &[NumberOption], name: &[u8]) -> Option<NumberOption>
+    ensures { MatchOption result (All (λ option. name_of option ≢ name.now) options.now) (λ option. name_of option ≡ name.now) }
+{
+    options.iter().copied().find(|option| option.name() == name)
+}
+
 impl NumberOption {
+    /// The option with a name, if one has it.
+    pub fn named(name: &[u8]) -> Option<NumberOption>
+        ensures { MatchOption result ((option : NumberOption) → name_of option ≢ name.now) (λ option. name_of option ≡ name.now) }
+    {
+        first_named(&NUMBER_OPTIONS, name)
+    }
+
     /// Its name on the command line, without the dashes before it.
     pub fn name(self) -> &'static [u8]
         ensures { result.now ≡ name_of self }
@@ -168,6 +207,16 @@ impl NumberOption {
 }
 
 impl ListOption {
+    /// The option with a name, if one has it.
+    pub fn named(name: &[u8]) -> Option<ListOption>
+        ensures { MatchOption result ((option : ListOption) → list_name_of option ≢ name.now) (λ option. list_name_of option ≡ name.now) }
+    {
+        LIST_OPTIONS
+            .iter()
+            .copied()
+            .find(|option| option.name() == name)
+    }
+
     /// Its name on the command line, without the dashes before it.
     pub fn name(self) -> &'static [u8]
         ensures { result.now ≡ list_name_of self }
