@@ -2,3 +2,4 @@ mod Ascending
 mod Listed
 mod HintBits
 mod EachOption
+mod WholeBytes

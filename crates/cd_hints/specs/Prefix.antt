@@ -1,5 +1,5 @@
 -- Prefixes of addresses.
-use Rattle.std.specs.Prelude.{ℕ, ◌+◌, ◌-◌, ◌*◌, ◌/◌, ◌^◌, min, Bool, List, [], ◌∷◌, if◌then◌else◌, Option, unwrap_or}
+use Rattle.std.specs.Prelude.{◌≡◌, ℕ, ◌+◌, ◌-◌, ◌*◌, ◌/◌, ◌^◌, min, Bool, List, [], ◌∷◌, if◌then◌else◌, Option, None, unwrap_or, length}
 use Rattle.cd_packet.specs.declared.address.Addr.{Addr}
 
 -- the first bits of a byte, as many as are given, and 0 behind them
@@ -26,3 +26,7 @@ prefix_bytes addr bits = first_bits (kept_bits addr bits) addr.octets
 -- how many bytes are stored
 abbrev pub prefix_size : Addr → Option ℕ → ℕ
 prefix_size addr bits = (kept_bits addr bits + 7) / 8
+
+-- an address of which all bits are kept stays as it is
+abbrev pub WholeAddressesStay : Type 0
+WholeAddressesStay = (addr : Addr) → length addr.octets ≡ 16 → prefix_bytes addr None ≡ addr.octets

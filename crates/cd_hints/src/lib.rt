@@ -10,6 +10,7 @@
 
 mod address_prefix;
 mod interval;
+mod law;
 mod listing;
 mod options;
 mod settings;
@@ -19,6 +20,7 @@ mod validity;
 
 pub use address_prefix::prefix;
 pub use interval::Interval;
+pub use law::whole_addresses_stay;
 pub use listing::{opcodes_of, types_of};
 pub use options::{ListOption, NumberOption};
 pub use settings::{Settings, default_settings};
