@@ -94,7 +94,7 @@ follows_served i fed given p e before served found stands first some pushed =
       stands = stands;
       served = served-append 0 given (p ∷ []) served ∙ alone;
       events = ap (λ es. map parts_of es) pushed ∙ map-append parts_of before (e ∷ []) ∙ ap (λ t. t ++ parts_of e ∷ []) found ∙ ap (λ t. events_of given ++ t) (sym one)
-      ∙ sym (filter_map-append event_of given (p ∷ []));
+          ∙ sym (filter_map-append event_of given (p ∷ []));
       first = first;
     }
 

@@ -4,5 +4,6 @@ mod captures;
 mod exchanges;
 mod faults;
 mod many;
+mod pairs;
 mod sample;
 mod words;

@@ -1,6 +1,8 @@
 //! Captures, given at once and one byte a call: how the run ends, and its file.
 
-use super::sample::{BLOCK, HEADER, PAIR, QUERY, RESPONSE, compacted, file_with, joined, sound_sink};
+use super::sample::{
+    BLOCK, HEADER, PAIR, QUERY, RESPONSE, compacted, file_with, joined, sound_sink,
+};
 use crate::Status;
 use cd_name::{Blob, List};
 use cd_packet::{BadCapture, CaptureWhy};
