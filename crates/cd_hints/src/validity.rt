@@ -1,6 +1,6 @@
 //! Whether settings are valid: the caller of a compaction asks it of settings that it made itself.
 
-ghost use Rattle.std.specs.Prelude.{◌≡◌, ◌↔◌, length, IsTrue, IfSome, IsSomeAnd};
+ghost use Rattle.std.specs.Prelude.{◌↔◌, IsTrue, IfSome, IsSomeAnd};
 ghost use Rattle.std.specs.List.Sorted.{IsStrictlyIncreasing};
 ghost use Rattle.cd_hints.specs.Options.{Admits};
 ghost use Rattle.cd_hints.specs.Validity.{AreValidHints, AreValidPrefixes, AreValidParams, IsValid};
