@@ -1,6 +1,6 @@
 -- The events of the bytes that a run takes weigh less than 2^63 together.
-use Rattle.std.proofs.Common.{◌≡◌, ℕ, ◌+◌, ◌*◌, ◌<◌, ◌≤◌, ◌^◌, Bool, true, false, cond, List, [], ◌∷◌, length, map, take, Option, Some, None, Result, Ok, Err, refl, ap, sym, ◌∙◌, arith, inl, inr, subst}
-use Rattle.std.specs.Prelude.{nat_eq, nat_lt, ◌&&◌}
+use Rattle.std.proofs.Common.{◌≡◌, ℕ, ◌+◌, ◌*◌, ◌<◌, ◌≤◌, ◌^◌, Bool, true, false, List, [], ◌∷◌, length, map, take, Option, Some, None, Result, Ok, Err, refl, ap, sym, ◌∙◌, arith, inl, inr}
+use Rattle.std.specs.Prelude.{nat_eq, ◌&&◌}
 use Rattle.std.specs.List.{sum_by, filter_map}
 use Rattle.std.proofs.lemmas.Bool.{cases_Bool, eqb-true}
 use Rattle.std.proofs.lemmas.List.{length-take}
@@ -18,7 +18,7 @@ use Rattle.cd_packet.specs.Layers.{Datagram, Found, datagram, skipped, layer_of}
 use Rattle.cd_packet.specs.Pcap.{pcap}
 use Rattle.cd_packet.specs.declared.packet.Packet.{Packet}
 use Rattle.cd_packet.proofs.Extending.{pcap-within}
-use Rattle.cd_top.specs.Endings.{used_bytes, most_taken, StopsReading}
+use Rattle.cd_top.specs.Endings.{used_bytes, StopsReading}
 use Rattle.cd_top.specs.Events.{dns_port, event_rules, is_header_alone, event_found, event_of, events_of, events}
 use Rattle.cd_top.specs.Gathered.{Gathers}
 use Rattle.cd_top.specs.declared.gathering.Gathered.{Gathered}

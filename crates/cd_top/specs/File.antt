@@ -1,5 +1,5 @@
 -- The C-DNS file: an array of the text "C-DNS", a preamble and the array of blocks (RFC 8618 7.3).
-use Rattle.std.specs.Prelude.{ℕ, zero, suc, ◌-◌, List, [], ◌∷◌, map, codes, Some, None}
+use Rattle.std.specs.Prelude.{ℕ, zero, suc, ◌-◌, List, [], ◌∷◌, map, codes, Some}
 use Rattle.std.specs.Option.{option_map}
 use Rattle.cd_top.specs.Kept.{kept_block}
 use Rattle.cd_top.specs.Tables.{indexed_block}
