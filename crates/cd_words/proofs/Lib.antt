@@ -1,0 +1,12 @@
+mod Numbers
+mod Cuts
+mod Intervals
+mod EachPart
+mod Reach
+mod PartsWithin
+mod Places
+mod Lines
+mod ValidSettings
+mod OptionNames
+mod Decimal
+mod LineOrBreak

@@ -1,0 +1,37 @@
+//! Numbers of the command line.
+
+ghost use Rattle.std.specs.Prelude.{◌≡◌, ◌^◌, ◌≤◌, IfSome, MatchOption, Some};
+ghost use Rattle.cd_words.specs.Numbers.{has_no_leading_zero, number_of};
+
+fn has_no_leading_zero(text: &[u8]) -> bool
+    ensures { result ≡ has_no_leading_zero text.now }
+{
+    match text {
+        [] => false,
+        [_] => true,
+        [first, ..] => *first != b'0',
+    }
+}
+
+/// The number that some bytes are. A number of more than 64 bits is none.
+pub fn number(text: &[u8]) -> Option<u64>
+    ensures { MatchOption result (IfSome (number_of text.now) (λ n. 2 ^ 64 ≤ n)) (λ n. number_of text.now ≡ Some n) }
+{
+    if !has_no_leading_zero(text) {
+        return None;
+    }
+    let mut value: u64 = 0;
+    for byte in text {
+        if !byte.is_ascii_digit() {
+            return None;
+        }
+        let Some(tens) = value.checked_mul(10) else {
+            return None;
+        };
+        let Some(next) = tens.checked_add(u64::from(*byte - b'0')) else {
+            return None;
+        };
+        value = next;
+    }
+    Some(value)
+}
