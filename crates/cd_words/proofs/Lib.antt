@@ -6,7 +6,7 @@ mod Reach
 mod PartsWithin
 mod Places
 mod Lines
-mod ValidSettings
+mod ValidParts
 mod OptionNames
 mod Decimal
 mod LineOrBreak

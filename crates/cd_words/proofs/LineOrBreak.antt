@@ -1,5 +1,5 @@
 -- Words are a command line or break a rule at one place.
-use Rattle.std.proofs.Common.{◌≡◌, ◌≢◌, ℕ, ◌+◌, ◌-◌, ◌*◌, ◌/◌, ◌%◌, ◌<◌, ◌≤◌, ◌⊎◌, inl, inr, eqb, ltb, leb, Bool, true, false, List, [], ◌∷◌, length, get_or, take, get_or-take, Option, Some, None, is_some, IsSome, IsSomeAnd, suc, zero, refl, sym, ap, ◌∙◌, subst, arith}
+use Rattle.std.proofs.Common.{◌≡◌, ◌≢◌, ℕ, ◌+◌, ◌*◌, ◌<◌, ◌≤◌, ◌⊎◌, inl, inr, ltb, leb, Bool, true, false, List, [], length, take, get_or-take, Option, Some, None, is_some, IsSome, IsSomeAnd, suc, zero, refl, sym, ap, ◌∙◌, subst, arith}
 use Rattle.std.specs.Int.{bit_at}
 use Rattle.std.specs.List.{list_any}
 use Rattle.std.specs.Str.{bytes_eq}
@@ -10,7 +10,7 @@ use Rattle.std.proofs.lemmas.Slice.Eq.{bytes_eq-Decides}
 use Rattle.std.specs.Prelude.{codes}
 use Rattle.cd_hints.specs.declared.interval.Interval.{Interval}
 use Rattle.cd_hints.specs.declared.options.NumberOption.{NumberOption}
-use Rattle.cd_hints.specs.declared.options.NumberOption.TheVariants.{Workers, Ticks, QueryTimeout, SkewTimeout, Window, WindowBytes, BlockItems, BlockBytes, QrHints, SigHints, RrHints, OtherHints, ClientPrefix4, ClientPrefix6, ServerPrefix4, ServerPrefix6, Port, MaxInput}
+use Rattle.cd_hints.specs.declared.options.NumberOption.TheVariants.{Ticks, QrHints, SigHints}
 use Rattle.cd_hints.specs.Options.{Admits, IsAllowed, option_range, list_range}
 use Rattle.cd_words.specs.declared.compact_option.CompactOption.{CompactOption}
 use Rattle.cd_words.specs.declared.compact_option.CompactOption.TheVariants.{Number, Parts}

@@ -1,5 +1,5 @@
 -- Command lines that grow by an option and its value.
-use Rattle.std.proofs.Common.{◌≡◌, ◌≢◌, ℕ, ◌+◌, ◌*◌, ◌<◌, ◌≤◌, List, [], ◌∷◌, ◌++◌, length, get_or, take, drop, get_or-take, Option, Some, None, IsSome, IsSomeAnd, refl, sym, ap, ◌∙◌, subst, arith, suc, zero, ltb, Bool, true, false, append_assoc}
+use Rattle.std.proofs.Common.{◌≡◌, ℕ, ◌+◌, ◌*◌, ◌<◌, ◌≤◌, List, [], ◌∷◌, ◌++◌, length, take, drop, get_or-take, Option, Some, None, IsSomeAnd, refl, sym, ap, ◌∙◌, subst, arith, suc, zero, ltb, Bool, true, false, append_assoc}
 use Rattle.std.proofs.lemmas.Bool.{false≢true, ltb-true, ltb-false}
 use Rattle.std.proofs.lemmas.List.{length-take-le, take_more, get_or_past}
 use Rattle.std.specs.Option.{option_map_or}

@@ -1,9 +1,8 @@
 -- The language of the words of a command line.
-use Rattle.std.specs.Prelude.{◌≡◌, ◌≢◌, ℕ, ◌+◌, ◌*◌, ◌<◌, List, length, [], ◌∷◌, take, drop, slice_index_or, Option, Some, IsSome, IsSomeAnd, codes}
+use Rattle.std.specs.Prelude.{◌≡◌, ◌≢◌, ℕ, ◌+◌, ◌*◌, ◌<◌, List, length, [], ◌∷◌, take, drop, slice_index_or, IsSome, IsSomeAnd, codes}
 use Rattle.std.specs.Option.{option_map_or}
 use Rattle.cd_hints.specs.declared.settings.Settings.{Settings}
 use Rattle.cd_hints.specs.Settings.{default_settings}
-use Rattle.cd_words.specs.declared.compact_option.CompactOption.{CompactOption}
 use Rattle.cd_hints.specs.Validity.{IsValid}
 use Rattle.cd_words.specs.declared.command.Command.{Command}
 use Rattle.cd_words.specs.declared.command.Command.TheVariants.{Compact}

@@ -1,6 +1,6 @@
 //! The command that the words say.
 
-ghost use Rattle.std.specs.Prelude.{◌≡◌, ◌<◌, ◌↔◌, length, IsTrue, Some, MatchOption, IfOk, IfErr};
+ghost use Rattle.std.specs.Prelude.{◌≡◌, ◌<◌, ◌↔◌, length, IsTrue, Some, MatchOption, IfOk, IfErr, OnOk};
 ghost use Rattle.std.specs.Bool.{MatchBool};
 ghost use Rattle.std.specs.List.{list_any};
 ghost use Rattle.std.specs.Str.{bytes_eq};
@@ -12,7 +12,7 @@ ghost use Rattle.cd_words.specs.CommandLines.{word_at, HasCommand, NamesOption, 
 use crate::compact_option::CompactOption;
 use crate::number::number;
 use crate::parts::parts;
-use crate::setting::{set_number, set_parts};
+use crate::setting::put_parts;
 use cd_hints::{Settings, default_settings};
 use cd_name::Blob;
 use std::alloc::{AllocError, Global};
@@ -74,21 +74,22 @@ fn set(
     option: CompactOption,
     word: &[u8],
 ) -> Result<bool, AllocError>
-    ensures { IfOk result (λ says. MatchBool says
+    ensures value { IfOk result (λ says. MatchBool says
         (Says option word.now × (settings.new ≡ with_value option word.now settings.old))
         (¬ (Says option word.now))) }
+    ensures valid { IsValid settings.old → OnOk result (IsValid settings.new) }
 {
     match option {
         CompactOption::Number(option) => match number(word) {
             Some(number) if option.admits(number) => {
-                set_number(settings, option, number);
+                settings.put(option, number);
                 Ok(true)
             }
             _ => Ok(false),
         },
         CompactOption::Parts(option) => match parts(alloc, option.range(), word)? {
             Some(parts) => {
-                set_parts(alloc, settings, option, &parts)?;
+                put_parts(alloc, settings, option, &parts)?;
                 Ok(true)
             }
             None => Ok(false),

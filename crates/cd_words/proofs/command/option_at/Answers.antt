@@ -1,10 +1,10 @@
-use Rattle.std.proofs.Common.{◌≡◌, ℕ, List, [], true, false, Some, None, IsSome, MatchOption, get_or, take, arith, rules, refl, sym, ap, ◌∙◌}
+use Rattle.std.proofs.Common.{◌≡◌, [], true, false, take, sym, ap, ◌∙◌}
 use Rattle.std.specs.List.{list_any}
 use Rattle.std.specs.Str.{bytes_eq}
 use Rattle.std.proofs.lemmas.Bool.{false≢true}
 use Rattle.std.proofs.lemmas.List.{get_or_read}
 use Rattle.cd_words.specs.Options.{option_named}
-use Rattle.cd_words.specs.CommandLines.{word_at, NamesOption}
+use Rattle.cd_words.specs.CommandLines.{word_at}
 use Rattle.cd_words.proofs.Places.{not_among, none_before, names_first}
 use Rattle.cd_words.proofs.command.option_at.Goals as goal
 

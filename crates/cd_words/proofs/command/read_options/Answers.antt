@@ -1,12 +1,9 @@
-use Rattle.std.proofs.Common.{◌≡◌, ℕ, ◌+◌, ◌*◌, ◌/◌, ◌<◌, ◌≤◌, length, take, [], Some, arith, rules, refl, sym, ap, ◌∙◌}
+use Rattle.std.proofs.Common.{◌≡◌, ℕ, ◌+◌, ◌*◌, ◌/◌, ◌<◌, ◌≤◌, length, [], Some, arith, refl, sym, ap, ◌∙◌}
 use Rattle.std.proofs.lemmas.Bool.Decides.{when_true, when_false}
-use Rattle.std.proofs.lemmas.List.{take_all}
-use Rattle.cd_hints.specs.Settings.{default_settings}
-use Rattle.cd_words.specs.Options.{option_named, Says}
+use Rattle.cd_words.specs.Options.{option_named}
 use Rattle.cd_words.specs.Changes.{with_value}
-use Rattle.cd_words.specs.CommandLines.{word_at, NamesOption, SaysValue, IsCommandLine, settings_of}
+use Rattle.cd_words.specs.CommandLines.{word_at}
 use Rattle.cd_words.proofs.Lines.{first_line, line_more, settings_first, settings_more, breaks_name, breaks_value, missing_value, other_value, value_said, has_words}
-use Rattle.cd_words.proofs.ValidSettings.{valid_value}
 use Rattle.cd_words.proofs.command.read_options.Goals as goal
 
 pub options-init : goal.options-init
@@ -25,13 +22,13 @@ options-preserved c =
     let word : c.in-Some-get.value.now ≡ word_at words (place + 1) = c.in-Some-get.ensures.lookup.4 (omega arith) [] in
     let named : option_named (word_at words place) ≡ Some c.in-Some.option = c.in-Some.ensures.1 in
     let same : c.as_slice.result.now ≡ word_at words (place + 1) = c.as_slice.ensures ∙ word in
-    let set = rw same at (when_true _ _ c.in-Ok-true.field-0-test c.in-Ok-true.ensures) in
+    let set = rw same at (when_true _ _ c.in-Ok-true.field-0-test c.in-Ok-true.ensures.value) in
     record {
       odd = omega (arith, c.options.invariant.odd);
       within = omega arith;
       line = line_more words place k odd there c.options.invariant.line c.in-Some.ensures.0 (value_said words place c.in-Some.option named set.0);
       settings = set.1 ∙ ap (with_value c.in-Some.option (word_at words (place + 1))) c.options.invariant.settings ∙ sym (settings_more words place k c.in-Some.option odd there named);
-      valid = rw set.1 (valid_value c.in-Some.option (word_at words (place + 1)) c.options.settings set.0 c.options.invariant.valid);
+      valid = c.in-Ok-true.ensures.valid c.options.invariant.valid;
     }
 
 pub returns-in_default-option_at-clause-fault : goal.returns-in_default-option_at-clause-fault
@@ -59,5 +56,5 @@ returns-in-Ok-false-clause-fault c =
     let odd : place ≡ 2 * k + 1 = omega (arith, c.options.invariant.odd) in
     let word : c.in-Some-get.value.now ≡ word_at words (place + 1) = c.in-Some-get.ensures.lookup.4 (omega arith) [] in
     let same : c.as_slice.result.now ≡ word_at words (place + 1) = c.as_slice.ensures ∙ word in
-    let unset = rw same at (when_false _ _ c.in-Ok-false.field-0-test c.in-Ok-false.ensures) in
+    let unset = rw same at (when_false _ _ c.in-Ok-false.field-0-test c.in-Ok-false.ensures.value) in
     breaks_value words place k odd c.options-test.true c.options.invariant.line c.in-Some.ensures.0 (other_value words place c.in-Some.option c.in-Some.ensures.1 unset)

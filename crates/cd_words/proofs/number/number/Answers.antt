@@ -1,9 +1,9 @@
-use Rattle.std.proofs.Common.{◌≡◌, ℕ, ◌+◌, ◌-◌, ◌*◌, ◌^◌, ◌≤◌, ◌<◌, length, get_or, take, true, false, IfSome, arith, rules, sym, ap, ◌∙◌}
+use Rattle.std.proofs.Common.{◌≡◌, ◌+◌, ◌^◌, get_or, take, true, false, arith}
 use Rattle.std.specs.Char.{is_ascii_digit}
 use Rattle.std.specs.Str.{all_ascii_digits}
 use Rattle.std.specs.Str.Parse.{digits_value}
 use Rattle.std.proofs.lemmas.List.{take_all}
-use Rattle.cd_words.specs.Numbers.{has_no_leading_zero, number_of}
+use Rattle.cd_words.specs.Numbers.{has_no_leading_zero}
 use Rattle.cd_words.proofs.Numbers.{leading_zero_is_none, other_byte_is_none, digits_are, digit_more, value_more, great_front}
 use Rattle.cd_words.proofs.number.number.Goals as goal
 

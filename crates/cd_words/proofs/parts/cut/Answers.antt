@@ -1,5 +1,5 @@
-use Rattle.std.proofs.Common.{◌≡◌, ◌==◌, ℕ, ◌+◌, ◌-◌, ◌<◌, ◌≤◌, length, take, drop, length-drop, true, false, Some, None, cond, arith, rules, tests, refl, sym, ap, ◌∙◌}
-use Rattle.std.specs.List.{position, position_or_len, list_any, before_first, after_first, slice_split}
+use Rattle.std.proofs.Common.{◌≡◌, ◌==◌, ◌<◌, length, length-drop, arith, rules, tests, refl, sym, ◌∙◌}
+use Rattle.std.specs.List.{position, position_or_len}
 use Rattle.std.proofs.lemmas.Iterator.{YieldsList-from_slice}
 use Rattle.std.proofs.lemmas.Iterator.Search.{position_from_yields_List}
 use Rattle.std.proofs.lemmas.List.{take_all, take_rest}

@@ -1,4 +1,4 @@
-use Rattle.std.proofs.Common.{◌≡◌, ℕ, ◌^◌, ◌≤◌, Some, None, is_some, true, false, IfSome, rules, sym, ap, ◌∙◌}
+use Rattle.std.proofs.Common.{◌≡◌, ◌^◌, ◌≤◌, Some, is_some, true, false, IfSome, sym, ap, ◌∙◌}
 use Rattle.std.specs.List.{list_any, before_first, after_first}
 use Rattle.cd_words.specs.Numbers.{number_of}
 use Rattle.cd_words.specs.Parts.{is_dash}

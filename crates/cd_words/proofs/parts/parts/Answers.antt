@@ -1,6 +1,5 @@
-use Rattle.std.proofs.Common.{◌≡◌, List, [], ◌∷◌, ◌++◌, Some, None, refl, sym, ap, ◌∙◌}
-use Rattle.std.specs.List.{slice_split}
-use Rattle.cd_words.specs.Parts.{is_comma, part_of, parts_of}
+use Rattle.std.proofs.Common.{◌≡◌, [], ◌∷◌, ◌++◌, Some, refl, sym, ap, ◌∙◌}
+use Rattle.cd_words.specs.Parts.{parts_of}
 use Rattle.cd_words.proofs.EachPart.{with_none, first_is_none, first_and_rest, last_part}
 use Rattle.cd_words.proofs.parts.parts.Goals as goal
 

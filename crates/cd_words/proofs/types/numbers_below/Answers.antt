@@ -1,9 +1,8 @@
-use Rattle.std.proofs.Common.{◌≡◌, ℕ, ◌+◌, ◌<◌, ◌≤◌, max, ltb, Bool, true, false, cond, ◌||◌, [], ◌∷◌, ◌++◌, get_or, arith, rules, refl, sym, ap, ◌∙◌}
+use Rattle.std.proofs.Common.{◌≡◌, ℕ, ◌+◌, ◌<◌, max, ltb, true, false, [], ◌∷◌, ◌++◌, get_or, arith, refl, sym, ap, ◌∙◌}
 use Rattle.std.specs.List.{list_any}
 use Rattle.std.proofs.lemmas.Bool.Decides.{nat_tests}
 use Rattle.std.proofs.lemmas.List.{append-nil, get_or_read}
-use Rattle.cd_hints.specs.Listing.{is_listed, listed_below}
-use Rattle.cd_words.specs.Reaches.{reaches_from}
+use Rattle.cd_hints.specs.Listing.{is_listed}
 use Rattle.cd_words.proofs.Reach.{reaches_from_below, none_below, more_below, listed_is, listed_none, listed_more, max_tells}
 use Rattle.cd_words.proofs.types.numbers_below.Goals as goal
 use Rattle.cd_words.proofs.types.numbers_below.Goals.{then-number-reach+in_ok-push, else-number-reach}

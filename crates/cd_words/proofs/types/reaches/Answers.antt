@@ -1,4 +1,4 @@
-use Rattle.std.proofs.Common.{◌≡◌, ◌+◌, ◌<◌, ◌≤◌, max, List, [], ◌∷◌, ◌++◌, length, get_or, set, take, arith, rules, refl, sym, ap, ◌∙◌}
+use Rattle.std.proofs.Common.{◌≡◌, ◌+◌, max, get_or, take, arith, refl, ◌∙◌}
 use Rattle.std.proofs.lemmas.List.{take_more, get_or_read}
 use Rattle.cd_hints.specs.declared.interval.Interval.{Interval}
 use Rattle.cd_words.proofs.Reach.{reaches_none, reaches_more}
