@@ -1,9 +1,16 @@
 -- The names of options differ.
-use Rattle.std.proofs.Common.{refl}
+use Rattle.std.proofs.Common.{◌≡◌, ◌≢◌, ℕ, Bool, true, false, cond, List, [], ◌∷◌, ◌++◌, Option, Some, None, refl, sym, ap, ◌∙◌}
+use Rattle.std.specs.List.{find}
+use Rattle.std.specs.Str.{bytes_eq}
+use Rattle.std.proofs.lemmas.Slice.Eq.{bytes_eq-Decides}
+use Rattle.cd_hints.specs.Options.{name_of, list_name_of}
+use Rattle.cd_words.specs.declared.compact_option.CompactOption.{CompactOption}
+use Rattle.cd_hints.specs.declared.options.NumberOption.{NumberOption}
+use Rattle.cd_hints.specs.declared.options.ListOption.{ListOption}
 use Rattle.cd_hints.specs.declared.options.NumberOption.TheVariants.{Workers, Ticks, QueryTimeout, SkewTimeout, Window, WindowBytes, BlockItems, BlockBytes, QrHints, SigHints, RrHints, OtherHints, ClientPrefix4, ClientPrefix6, ServerPrefix4, ServerPrefix6, Port, MaxInput}
 use Rattle.cd_hints.specs.declared.options.ListOption.TheVariants.{Opcodes, RrTypes}
 use Rattle.cd_words.specs.declared.compact_option.CompactOption.TheVariants.{Number, Parts}
-use Rattle.cd_words.specs.Options.{option_named}
+use Rattle.cd_words.specs.Options.{all_options, word_of, option_named}
 use Rattle.cd_words.specs.Laws.{OptionsHaveNames}
 
 -- the word of each option names it
@@ -29,3 +36,46 @@ options_named (Number Port) = refl
 options_named (Number MaxInput) = refl
 options_named (Parts Opcodes) = refl
 options_named (Parts RrTypes) = refl
+
+-- what is found passes the test
+found_passes : (p : CompactOption → Bool) (options : List CompactOption) (option : CompactOption) → find p options ≡ Some option → p option ≡ true
+found_passes p [] option h = absurd (cc)
+found_passes p (first ∷ options) option h = by (p first) refl (found_passes p options option) h
+  where
+    by : (b : Bool) → p first ≡ b → (find p options ≡ Some option → p option ≡ true) → cond b (Some first) (find p options) ≡ Some option → p option ≡ true
+    by true e rest h = let same : first ≡ option = cc in ap p (sym same) ∙ e
+    by false e rest h = rest h
+
+-- a word names the option whose word it is
+pub names_it : (word : List ℕ) (option : CompactOption) → word ≡ word_of option → Some option ≡ option_named word
+names_it word option e = sym (ap option_named e ∙ options_named option)
+
+-- a word that is none of theirs names none
+pub names_none : (word : List ℕ) → ((option : CompactOption) → word ≢ word_of option) → None ≡ option_named word
+unfolding option_named
+names_none word other = by (find (λ option. bytes_eq word (word_of option)) all_options) refl
+  where
+    by : (o : Option CompactOption) → find (λ option. bytes_eq word (word_of option)) all_options ≡ o → None ≡ o
+    by None e = refl
+    by (Some option) e = absurd (other option ((bytes_eq-Decides word (word_of option)).0 (found_passes (λ option. bytes_eq word (word_of option)) all_options option e)))
+
+-- what stands behind two dashes
+behind : {xs ys : List ℕ} → 45 ∷ 45 ∷ xs ≡ 45 ∷ 45 ∷ ys → xs ≡ ys
+behind e = cc
+
+-- a word without two dashes in front names none
+pub no_dashes : (word : List ℕ) → ((name : List ℕ) → word ≢ (45 ∷ 45 ∷ []) ++ name) → None ≡ option_named word
+no_dashes word other = names_none word by
+  where
+    by : (option : CompactOption) → word ≢ word_of option
+    by (Number option) e = other (name_of option) e
+    by (Parts option) e = other (list_name_of option) e
+
+-- nor does one behind whose dashes stands no name of an option
+pub no_name : (word name : List ℕ) → word ≡ (45 ∷ 45 ∷ []) ++ name → ((option : NumberOption) → name_of option ≢ name) → ((option : ListOption) → list_name_of option ≢ name) →
+    None ≡ option_named word
+no_name word name split numbers lists = names_none word by
+  where
+    by : (option : CompactOption) → word ≢ word_of option
+    by (Number option) e = numbers option (sym (behind (sym split ∙ e)))
+    by (Parts option) e = lists option (sym (behind (sym split ∙ e)))
