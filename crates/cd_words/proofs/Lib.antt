@@ -10,3 +10,4 @@ mod ValidParts
 mod OptionNames
 mod Decimal
 mod LineOrBreak
+mod OptionValues

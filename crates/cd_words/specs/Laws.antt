@@ -3,7 +3,7 @@ use Rattle.std.specs.Prelude.{◌≡◌, ◌↔◌, ℕ, ◌^◌, ◌<◌, ◌�
 use Rattle.std.specs.Fmt.{decimal}
 use Rattle.cd_words.specs.declared.compact_option.CompactOption.{CompactOption}
 use Rattle.cd_words.specs.Numbers.{number_of}
-use Rattle.cd_words.specs.Options.{word_of, option_named}
+use Rattle.cd_words.specs.Options.{word_of, option_named, Says}
 use Rattle.cd_words.specs.CommandLines.{IsCommandLine, BreaksAt}
 
 -- bytes are a number exactly where they are what std writes of it
@@ -13,6 +13,10 @@ NumbersAreDecimal = (text : List ℕ) (n : ℕ) → n < 2 ^ 64 → (number_of te
 -- the word of an option names it and no other
 abbrev pub OptionsHaveNames : Type 0
 OptionsHaveNames = (option : CompactOption) → option_named (word_of option) ≡ Some option
+
+-- each option has a value that a word says, so words that end with a name can go on
+abbrev pub OptionsHaveValues : Type 0
+OptionsHaveValues = (option : CompactOption) → (word : List ℕ) × Says option word
 
 -- the words break a rule at this place and at no other, and are no command line
 pub record BreaksOnce (words : List (List ℕ)) (place : ℕ) : Type 0 where

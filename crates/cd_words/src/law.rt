@@ -1,6 +1,6 @@
 //! Laws of the language: contracts of functions that do nothing.
 
-ghost use Rattle.cd_words.specs.Laws.{NumbersAreDecimal, OptionsHaveNames, LinesOrBreaks};
+ghost use Rattle.cd_words.specs.Laws.{NumbersAreDecimal, OptionsHaveNames, OptionsHaveValues, LinesOrBreaks};
 
 /// A law: bytes are a number exactly where they are what std writes of it. It does nothing.
 pub fn numbers_are_decimal()
@@ -10,6 +10,11 @@ pub fn numbers_are_decimal()
 /// A law: the word of an option names it and no other. It does nothing.
 pub fn options_have_names()
     ensures { OptionsHaveNames }
+{}
+
+/// A law: each option has a value that a word says. It does nothing.
+pub fn options_have_values()
+    ensures { OptionsHaveValues }
 {}
 
 /// A law: words are a command line, or break a rule at exactly one place. It does nothing.

@@ -19,4 +19,6 @@ mod tests;
 mod types;
 
 pub use command::{Command, WordsFault, read_words};
-pub use law::{numbers_are_decimal, options_have_names, words_are_a_line_or_break_a_rule};
+pub use law::{
+    numbers_are_decimal, options_have_names, options_have_values, words_are_a_line_or_break_a_rule,
+};
