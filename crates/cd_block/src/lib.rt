@@ -30,6 +30,7 @@ pub mod flags;
 pub mod hints;
 mod kept;
 pub mod keys;
+mod law;
 mod params;
 mod stamp;
 mod stats;
@@ -41,6 +42,7 @@ pub use hints::Hints;
 pub use kept::{
     KeptBlock, KeptData, KeptItem, KeptLists, KeptMalformed, KeptQuestion, KeptRr, KeptSig,
 };
+pub use law::bits_are_those_of_keys;
 pub use params::Params;
 pub use stamp::Stamp;
 pub use stats::Stats;
