@@ -3,3 +3,10 @@ pub mod Listing
 pub mod Settings
 pub mod Validity
 pub mod Prefix
+pub mod Records
+pub mod Ticks
+pub mod Hinted
+pub mod Addresses
+pub mod Flags
+pub mod Lists
+pub mod Items

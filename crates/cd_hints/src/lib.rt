@@ -10,9 +10,11 @@
 
 mod address_prefix;
 mod interval;
+mod item;
 mod law;
 mod listing;
 mod options;
+mod record;
 mod settings;
 #[cfg(test)]
 mod tests;
@@ -20,8 +22,10 @@ mod validity;
 
 pub use address_prefix::prefix;
 pub use interval::Interval;
+pub use item::{kept_item, kept_malformed};
 pub use law::whole_addresses_stay;
 pub use listing::{opcodes_of, types_of};
 pub use options::{ListOption, NumberOption};
+pub use record::Rec;
 pub use settings::{Settings, default_settings};
 pub use validity::valid;
