@@ -13,7 +13,12 @@ use std::alloc::{AllocError, Global};
 
 /// The item of a pair, a query or a response, in a block with this earliest time, which is at or before the record's (RFC 8618
 /// 7.3.2.4). A field is there exactly where its hint is set and it has a value. An `Err` is for want of memory.
-pub fn kept_item(alloc: Global, settings: &Settings, rec: &Rec, earliest: Stamp) -> Result<KeptItem, AllocError>
+pub fn kept_item(
+    alloc: Global,
+    settings: &Settings,
+    rec: &Rec,
+    earliest: Stamp,
+) -> Result<KeptItem, AllocError>
     requires valid { IsValid settings.now }
     requires item { IsItem (record_parts rec.now) }
     requires kinds { HasKinds (record_parts rec.now) }
@@ -25,7 +30,12 @@ pub fn kept_item(alloc: Global, settings: &Settings, rec: &Rec, earliest: Stamp)
 
 /// A payload that is no message, whole, in a block with this earliest time, which is at or before the record's (RFC 8618
 /// 7.3.2.6). An `Err` is for want of memory.
-pub fn kept_malformed(alloc: Global, settings: &Settings, rec: &Rec, earliest: Stamp) -> Result<KeptMalformed, AllocError>
+pub fn kept_malformed(
+    alloc: Global,
+    settings: &Settings,
+    rec: &Rec,
+    earliest: Stamp,
+) -> Result<KeptMalformed, AllocError>
     requires valid { IsValid settings.now }
     requires malformed { IsMalformed (record_parts rec.now) }
     requires kinds { HasKinds (record_parts rec.now) }

@@ -1,0 +1,13 @@
+//! Laws of runs, each the contract of a function that does nothing.
+
+ghost use Rattle.cd_record.specs.Laws.{RunsAreOne, OneRecordIsAdmissible};
+
+/// Records of which each may stand in a block alone are cut into runs in exactly one way.
+pub fn runs_are_one()
+    ensures { RunsAreOne }
+{}
+
+/// A record of events of datagrams may stand in a block alone, whatever the valid settings are.
+pub fn one_record_is_admissible()
+    ensures { OneRecordIsAdmissible }
+{}
