@@ -7,6 +7,7 @@ use Rattle.cd_message.specs.declared.message.Rr.{Rr}
 use Rattle.cd_message.specs.declared.message.TheConstants.{OPT}
 use Rattle.cd_message.specs.Valid.{is_opt}
 use Rattle.cd_edns.specs.declared.opt_record.Opt.{Opt}
+use Rattle.cd_edns.specs.declared.opt_record.OptRef.{OptRef}
 
 -- no additional record of the message is an OPT record
 abbrev pub HasNoOpt : Message → Type 0
@@ -19,6 +20,10 @@ ext_rcode_of r = r.ttl / 16777216
 -- what an OPT record means: of the TTL the next byte is the version, and the top bit of the low half is DO
 abbrev pub opt_of_record : Rr → Opt
 opt_of_record r = record { udp_size = r.rclass; ext_rcode = ext_rcode_of r; version = r.ttl / 65536 % 256; dnssec_ok = nat_le 32768 (r.ttl % 65536); rdata = r.rdata }
+
+-- what an OPT record means, without where its options lie in memory
+abbrev pub opt_seen : OptRef → Opt
+opt_seen o = record { udp_size = o.udp_size; ext_rcode = o.ext_rcode; version = o.version; dnssec_ok = o.dnssec_ok; rdata = o.rdata.now }
 
 -- what the message's OPT record means, if it has one
 abbrev pub opt_of_message : Message → Option Opt

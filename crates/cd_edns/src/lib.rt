@@ -12,6 +12,6 @@ mod opt_writing;
 mod tests;
 
 pub use law::opts_are_given_back;
-pub use opt_reading::{full_rcode, opt_of};
-pub use opt_record::Opt;
+pub use opt_reading::{full_rcode, opt_of, opt_ref};
+pub use opt_record::{Opt, OptRef};
 pub use opt_writing::put_opt;

@@ -3,11 +3,10 @@
 ghost use Rattle.std.specs.Prelude.{◌≡◌, ◌↔◌, IfOk, IsNone, find};
 ghost use Rattle.std.specs.Option.{option_copied, option_map};
 ghost use Rattle.cd_message.specs.Valid.{Valid, is_opt};
-ghost use Rattle.cd_edns.specs.Opts.{HasNoOpt, opt_of_message, opt_of_record, ext_rcode_of, full_rcode_of};
+ghost use Rattle.cd_edns.specs.Opts.{HasNoOpt, opt_of_message, opt_of_record, opt_seen, ext_rcode_of, full_rcode_of};
 
-use crate::opt_record::Opt;
+use crate::opt_record::{Opt, OptRef};
 use cd_message::{Message, OPT, Rr};
-use cd_name::Blob;
 use std::alloc::{AllocError, Global};
 
 /// The first OPT record of some records.
@@ -25,17 +24,26 @@ fn ext_rcode_of(opt: &Rr) -> u8
 }
 
 /// What an OPT record means.
-fn opt_of_record(alloc: Global, opt: &Rr) -> Result<Opt, AllocError>
-    ensures { IfOk result (λ found. found ≡ opt_of_record opt.now) }
+fn opt_ref_of_record(opt: &Rr) -> OptRef<'_>
+    ensures { opt_seen result ≡ opt_of_record opt.now }
 {
-    let rdata = Vec::from_slice(alloc, opt.rdata.as_slice())?;
-    Ok(Opt {
+    OptRef {
         udp_size: opt.rclass,
         ext_rcode: ext_rcode_of(opt),
         version: (opt.ttl / 65536 % 256) as u8,
         dnssec_ok: opt.ttl % 65536 >= 32768,
-        rdata: Blob::from_vec(rdata),
-    })
+        rdata: opt.rdata.as_slice(),
+    }
+}
+
+/// What a message's OPT record means, if it has one, with the options borrowed from the message (RFC 6891 6.1.2, 6.1.3).
+pub fn opt_ref(message: &Message) -> Option<OptRef<'_>>
+    ensures { option_map opt_seen result ≡ opt_of_message message.now }
+{
+    match opt_record(message.additional.as_slice()) {
+        Some(record) => Some(opt_ref_of_record(record)),
+        None => None,
+    }
 }
 
 /// What a message's OPT record means, if it has one (RFC 6891 6.1.2, 6.1.3). The only error is want of memory.
@@ -44,9 +52,9 @@ pub fn opt_of(alloc: Global, message: &Message) -> Result<Option<Opt>, AllocErro
     ensures exact { IfOk result (λ opt. opt ≡ opt_of_message message.now) }
     ensures none { IfOk result (λ opt. IsNone opt ↔ HasNoOpt message.now) }
 {
-    match opt_record(message.additional.as_slice()) {
-        Some(record) => {
-            let opt = opt_of_record(alloc, record)?;
+    match opt_ref(message) {
+        Some(found) => {
+            let opt = found.to_opt(alloc)?;
             Ok(Some(opt))
         }
         None => Ok(None),

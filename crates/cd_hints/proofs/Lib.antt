@@ -3,3 +3,5 @@ mod Listed
 mod HintBits
 mod EachOption
 mod WholeBytes
+mod HeaderFlags
+mod Signatures

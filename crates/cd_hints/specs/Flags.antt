@@ -4,7 +4,6 @@ use Rattle.std.specs.Int.{bit_at}
 use Rattle.std.specs.Option.{option_map_or}
 use Rattle.cd_block.specs.declared.flags.TheConstants as flag
 use Rattle.cd_edns.specs.Opts.{opt_of_message}
-use Rattle.cd_edns.specs.declared.opt_record.Opt.{Opt}
 use Rattle.cd_message.specs.declared.message.Message.{Message}
 use Rattle.cd_ident.specs.Events.{EventParts}
 
@@ -46,9 +45,9 @@ response_signature_flags m =
 abbrev pub signature_flags : Option Message → Option Message → ℕ
 signature_flags query response = option_map_or query_signature_flags query 0 + option_map_or response_signature_flags response 0
 
--- the sender of an OPT record takes DNSSEC records (RFC 6891 6.1.4)
-abbrev pub says_dnssec_ok : Opt → Bool
-says_dnssec_ok o = o.dnssec_ok
+-- the message has an OPT record with DO: its sender takes DNSSEC records (RFC 6891 6.1.4)
+abbrev pub is_dnssec_ok : Message → Bool
+is_dnssec_ok m = option_map_or (λ o. o.dnssec_ok) (opt_of_message m) false
 
 -- The DNS flags of a query: in the second word of the header CD, AD, Z, RA, RD, TC and AA are the bits 4 to 10 (RFC 1035 4.1.1,
 -- RFC 4035 3.1.6), and DO stands in the OPT record (RFC 6891 6.1.4).
@@ -61,7 +60,7 @@ query_dns_flags m =
     + bit_at m.bits 8 * flag.DNS_QUERY_RD
     + bit_at m.bits 9 * flag.DNS_QUERY_TC
     + bit_at m.bits 10 * flag.DNS_QUERY_AA
-    + flag_where (option_map_or says_dnssec_ok (opt_of_message m) false) flag.DNS_QUERY_DO
+    + flag_where (is_dnssec_ok m) flag.DNS_QUERY_DO
 
 -- the DNS flags of a response
 abbrev pub response_dns_flags : Message → ℕ

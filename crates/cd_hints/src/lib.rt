@@ -9,6 +9,7 @@
 #![tactic(auto)]
 
 mod address_prefix;
+mod hint;
 mod interval;
 mod item;
 mod law;
@@ -16,8 +17,12 @@ mod listing;
 mod options;
 mod record;
 mod settings;
+mod signature;
+mod signature_flags;
+mod stored_address;
 #[cfg(test)]
 mod tests;
+mod ticks;
 mod validity;
 
 pub use address_prefix::prefix;
@@ -28,4 +33,5 @@ pub use listing::{opcodes_of, types_of};
 pub use options::{ListOption, NumberOption};
 pub use record::Rec;
 pub use settings::{Settings, default_settings};
+pub use ticks::tick_of;
 pub use validity::valid;

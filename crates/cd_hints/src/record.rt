@@ -1,8 +1,13 @@
 //! Records: what the events of a capture are grouped into.
 
-ghost use Rattle.std.specs.Prelude.{◌≡◌};
+ghost use Rattle.std.specs.Prelude.{◌≡◌, IfSome};
+ghost use Rattle.std.specs.Option.{option_copied, option_map};
+ghost use Rattle.cd_message.specs.Valid.{Valid};
+ghost use Rattle.cd_ident.specs.Keys.{parts_of};
+ghost use Rattle.cd_hints.specs.Records.{message_of};
 
-use cd_ident::Event;
+use cd_ident::{Body, Event};
+use cd_message::Message;
 
 /// A query with its response, or an event that stands alone (RFC 8618 10). Calls that take a record ask that each event has the
 /// kind that the record names.
@@ -18,4 +23,90 @@ pub enum Rec {
     Malformed(Event),
     /// A message whose opcode is not listed.
     Discarded(Event),
+}
+
+// The message of an event, where it has one.
+fn message_of(event: &Event) -> Option<&Message>
+    ensures message { option_copied result ≡ message_of (parts_of event.now) }
+    ensures valid { IfSome result (λ m. Valid m.now) }
+{
+    match &event.body {
+        Body::Message(message) => Some(message),
+        Body::Payload(_) => None,
+        Body::Nothing => None,
+    }
+}
+
+impl Rec {
+    ghost use Rattle.cd_hints.specs.Records.{record_parts, lead, query_of, response_of, query_message, response_message};
+    ghost use Rattle.cd_hints.specs.Items.{lead_message};
+
+    /// The event whose time, ends and ID are those of the record: the query, or else the only event.
+    pub fn lead(&self) -> &Event
+        ensures { parts_of result.now ≡ lead (record_parts self.now) }
+    {
+        match self {
+            Rec::Pair { query, response: _ } => query,
+            Rec::Query(event) => event,
+            Rec::Response(event) => event,
+            Rec::Malformed(event) => event,
+            Rec::Discarded(event) => event,
+        }
+    }
+
+    // The query, where there is one.
+    pub(crate) fn query(&self) -> Option<&Event>
+        ensures { option_map (λ e. parts_of e.now) result ≡ query_of (record_parts self.now) }
+    {
+        match self {
+            Rec::Pair { query, response: _ } => Some(query),
+            Rec::Query(event) => Some(event),
+            Rec::Response(_) => None,
+            Rec::Malformed(_) => None,
+            Rec::Discarded(_) => None,
+        }
+    }
+
+    // The response, where there is one.
+    pub(crate) fn response(&self) -> Option<&Event>
+        ensures { option_map (λ e. parts_of e.now) result ≡ response_of (record_parts self.now) }
+    {
+        match self {
+            Rec::Pair { query: _, response } => Some(response),
+            Rec::Query(_) => None,
+            Rec::Response(event) => Some(event),
+            Rec::Malformed(_) => None,
+            Rec::Discarded(_) => None,
+        }
+    }
+
+    // The message of the lead.
+    pub(crate) fn lead_message(&self) -> Option<&Message>
+        ensures message { option_copied result ≡ lead_message (record_parts self.now) }
+        ensures valid { IfSome result (λ m. Valid m.now) }
+    {
+        message_of(self.lead())
+    }
+
+    // The message of the query, where there is one.
+    pub(crate) fn query_message(&self) -> Option<&Message>
+        ensures message { option_copied result ≡ query_message (record_parts self.now) }
+        ensures valid { IfSome result (λ m. Valid m.now) }
+    {
+        match self.query() {
+            Some(query) => message_of(query),
+            None => None,
+        }
+    }
+
+    // The message of the response, where there is one.
+    pub(crate) fn response_message(&self) -> Option<&Message>
+        ensures message { option_copied result ≡ response_message (record_parts self.now) }
+        ensures valid { IfSome result (λ m. Valid m.now) }
+    {
+        match self.response() {
+            Some(response) => message_of(response),
+            None => None,
+        }
+    }
 }

@@ -11,8 +11,8 @@ pub(crate) fn is_query(bits: u16) -> bool
     bits / 0x8000 % 2 == 0
 }
 
-// The opcode, 0 to 15.
-pub(crate) fn opcode_of(bits: u16) -> u8
+/// The opcode of a message, 0 to 15, from the second word of its header (RFC 1035 4.1.1).
+pub fn opcode_of(bits: u16) -> u8
     ensures exact { result ≡ Headers.opcode_of bits }
     ensures bound { result < 16 }
 {
