@@ -4,4 +4,5 @@ mod HintBits
 mod EachOption
 mod WholeBytes
 mod HeaderFlags
-mod Signatures
+mod SignatureFields
+mod ItemFields

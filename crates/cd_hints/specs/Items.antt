@@ -1,6 +1,6 @@
--- What is kept of a record, field by field (RFC 8618 7.3.2.4, 7.3.2.3.2, 7.3.2.6). Each field is there exactly where its hint is set
--- and it has a value.
-use Rattle.std.specs.Prelude.{ℕ, ◌-◌, pos, ◌-ℤ◌, ℤ, Bool, false, List, length, slice_get, Option, Some, None, option_and_then}
+-- What is kept of a record, field by field (RFC 8618 7.3.2.4, 7.3.2.3.2, 7.3.2.6). A field of an item or of its signature is there
+-- exactly where its hint is set and it has a value; a malformed message is whole.
+use Rattle.std.specs.Prelude.{ℕ, ◌-◌, pos, ◌-ℤ◌, ℤ, Bool, false, length, slice_get, Option, Some, None, option_and_then}
 use Rattle.std.specs.Option.{option_map, option_map_or, option_or}
 use Rattle.cd_block.specs.declared.hints.TheConstants as hint
 use Rattle.cd_block.specs.declared.kept.KeptSig.{KeptSig}
@@ -19,7 +19,7 @@ use Rattle.cd_hints.specs.Addresses.{client_address, server_address}
 use Rattle.cd_hints.specs.Flags.{transport_flags, signature_flags, dns_flags}
 use Rattle.cd_hints.specs.Hinted.{kept}
 use Rattle.cd_hints.specs.Lists.{query_lists, response_lists, no_lists}
-use Rattle.cd_hints.specs.Records.{RecordParts, pair, unmatched_query, unmatched_response, malformed, discarded, lead, query_of, response_of, message_of, query_message, response_message, payload_in}
+use Rattle.cd_hints.specs.Records.{RecordParts, pair, unmatched_query, unmatched_response, malformed, discarded, main_event, query_of, response_of, event_message, query_message, response_message, payload_in}
 use Rattle.cd_hints.specs.Ticks.{tick_of, stamp_tick}
 
 -- the first question of a message
@@ -35,8 +35,8 @@ abbrev pub query_opt : RecordParts → Option Opt
 query_opt r = option_and_then opt_of_message (query_message r)
 
 -- the message whose ID, opcode and question count are those of the record: the query's, or else the only one
-abbrev pub lead_message : RecordParts → Option Message
-lead_message r = message_of (lead r)
+abbrev pub main_message : RecordParts → Option Message
+main_message r = event_message (main_event r)
 
 -- bytes stand behind the query's message
 abbrev pub is_query_trailing : RecordParts → Bool
@@ -46,18 +46,18 @@ is_query_trailing r = option_map_or (λ e. e.trailing) (query_of r) false
 abbrev pub kept_signature : Params → RecordParts → KeptSig
 kept_signature p r = record {
   -- the server's address, cut to its prefix
-  server_address = kept p.hints.sig hint.SIG_SERVER_ADDRESS (Some (server_address p.prefixes (lead r).server));
-  server_port = kept p.hints.sig hint.SIG_SERVER_PORT (Some (lead r).server_port);
-  transport_flags = kept p.hints.sig hint.SIG_TRANSPORT_FLAGS (Some (transport_flags (lead r) (is_query_trailing r)));
+  server_address = kept p.hints.sig hint.SIG_SERVER_ADDRESS (Some (server_address p.prefixes (main_event r).server));
+  server_port = kept p.hints.sig hint.SIG_SERVER_PORT (Some (main_event r).server_port);
+  transport_flags = kept p.hints.sig hint.SIG_TRANSPORT_FLAGS (Some (transport_flags (main_event r) (is_query_trailing r)));
   sig_flags = kept p.hints.sig hint.SIG_SIG_FLAGS (Some (signature_flags (query_message r) (response_message r)));
-  opcode = kept p.hints.sig hint.SIG_OPCODE (option_map (λ m. opcode_of m.bits) (lead_message r));
+  opcode = kept p.hints.sig hint.SIG_OPCODE (option_map (λ m. opcode_of m.bits) (main_message r));
   dns_flags = kept p.hints.sig hint.SIG_DNS_FLAGS (Some (dns_flags (query_message r) (response_message r)));
   -- the RCODE of twelve bits, where there is a query
   query_rcode = kept p.hints.sig hint.SIG_QUERY_RCODE (option_map full_rcode_of (query_message r));
   -- the type and the class, where there is a lead question
   classtype = kept p.hints.sig hint.SIG_CLASSTYPE (option_map (λ q. (q.rtype, q.rclass)) (lead_question r));
   -- how many questions the query has, or else the response
-  qd = kept p.hints.sig hint.SIG_QDCOUNT (option_map (λ m. length m.questions) (lead_message r));
+  qd = kept p.hints.sig hint.SIG_QDCOUNT (option_map (λ m. length m.questions) (main_message r));
   -- how many records each section of the query has, where there is a query
   an = kept p.hints.sig hint.SIG_ANCOUNT (option_map (λ m. length m.answers) (query_message r));
   ns = kept p.hints.sig hint.SIG_NSCOUNT (option_map (λ m. length m.authority) (query_message r));
@@ -89,11 +89,11 @@ response_delay p (discarded e) = None
 -- The item of a record, in a block with this earliest time (RFC 8618 7.3.2.4).
 abbrev pub kept_item : Params → Stamp → RecordParts → KeptItem
 kept_item p earliest r = record {
-  time_offset = kept p.hints.qr hint.QR_TIME_OFFSET (Some (time_offset p earliest (lead r)));
+  time_offset = kept p.hints.qr hint.QR_TIME_OFFSET (Some (time_offset p earliest (main_event r)));
   -- the client's address, cut to its prefix
-  client_address = kept p.hints.qr hint.QR_CLIENT_ADDRESS (Some (client_address p.prefixes (lead r).client));
-  client_port = kept p.hints.qr hint.QR_CLIENT_PORT (Some (lead r).client_port);
-  transaction_id = kept p.hints.qr hint.QR_TRANSACTION_ID (option_map (λ m. m.id) (lead_message r));
+  client_address = kept p.hints.qr hint.QR_CLIENT_ADDRESS (Some (client_address p.prefixes (main_event r).client));
+  client_port = kept p.hints.qr hint.QR_CLIENT_PORT (Some (main_event r).client_port);
+  transaction_id = kept p.hints.qr hint.QR_TRANSACTION_ID (option_map (λ m. m.id) (main_message r));
   signature = kept p.hints.qr hint.QR_SIGNATURE (Some (kept_signature p r));
   -- where there is a query
   client_hoplimit = kept p.hints.qr hint.QR_CLIENT_HOPLIMIT (option_map (λ e. e.hop) (query_of r));
@@ -104,12 +104,12 @@ kept_item p earliest r = record {
   -- where there is a query, and where there is a response
   query_size = kept p.hints.qr hint.QR_QUERY_SIZE (option_map (λ e. e.size) (query_of r));
   response_size = kept p.hints.qr hint.QR_RESPONSE_SIZE (option_map (λ e. e.size) (response_of r));
-  -- a list has a hint of its own
+  -- each list of resource records has a hint of its own, and the questions of both halves share one
   query_extended = option_map_or (query_lists p) (query_message r) no_lists;
   response_extended = option_map_or (response_lists p) (response_message r) no_lists;
 }
 
--- the data of a payload that is no message, whole (RFC 8618 7.3.2.3.5)
+-- the data of a malformed message, whole (RFC 8618 7.3.2.3.5)
 abbrev pub kept_data : Params → EventParts → KeptData
 kept_data p e = record {
   server_address = Some (server_address p.prefixes e.server);
@@ -118,11 +118,11 @@ kept_data p e = record {
   payload = payload_in e.body;
 }
 
--- a payload that is no message, whole, in a block with this earliest time (RFC 8618 7.3.2.6)
+-- a malformed message, whole, in a block with this earliest time (RFC 8618 7.3.2.6)
 abbrev pub kept_malformed : Params → Stamp → RecordParts → KeptMalformed
 kept_malformed p earliest r = record {
-  time_offset = Some (time_offset p earliest (lead r));
-  client_address = Some (client_address p.prefixes (lead r).client);
-  client_port = Some (lead r).client_port;
-  message_data = Some (kept_data p (lead r));
+  time_offset = Some (time_offset p earliest (main_event r));
+  client_address = Some (client_address p.prefixes (main_event r).client);
+  client_port = Some (main_event r).client_port;
+  message_data = Some (kept_data p (main_event r));
 }

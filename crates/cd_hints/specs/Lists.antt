@@ -1,5 +1,5 @@
--- The questions and records that are kept, and those that are dropped (RFC 8618 7.3.2.4.2).
-use Rattle.std.specs.Prelude.{ℕ, ◌+◌, Bool, not, nat_eq, List, [], map, filter, drop, if◌then◌else◌, Option, Some}
+-- The questions and resource records that are kept, and those that are dropped (RFC 8618 7.3.2.4.2).
+use Rattle.std.specs.Prelude.{ℕ, ◌+◌, Bool, not, nat_eq, List, [], map, filter, drop, if◌then◌else◌, Some}
 use Rattle.std.specs.List.{list_any, count_by}
 use Rattle.std.specs.Option.{option_map_or}
 use Rattle.cd_block.specs.declared.hints.Hints.{Hints}
@@ -19,7 +19,7 @@ use Rattle.cd_hints.specs.Records.{RecordParts, query_message, response_message}
 abbrev pub kept_question : Question → KeptQuestion
 kept_question q = record { name = q.name; rtype = q.rtype; rclass = q.rclass }
 
--- a record, with its TTL and its RDATA where their hints are set
+-- a resource record, with its TTL and its RDATA where their hints are set
 abbrev pub kept_rr : Hints → Rr → KeptRr
 kept_rr hints r = record {
   name = r.owner;
@@ -29,11 +29,11 @@ kept_rr hints r = record {
   rdata = kept hints.rr hint.RR_RDATA (Some r.rdata);
 }
 
--- the type of a record is one of those that are listed
+-- the type of a resource record is one of those that are listed
 abbrev pub is_listed_record : List ℕ → Rr → Bool
 is_listed_record types r = list_any (λ t. nat_eq t r.rtype) types
 
--- the records that are not OPT records
+-- the resource records that are not OPT records
 abbrev pub without_opt : List Rr → List Rr
 without_opt records = filter (λ r. not (is_opt r)) records
 
@@ -41,7 +41,7 @@ without_opt records = filter (λ r. not (is_opt r)) records
 abbrev pub kept_questions : Hints → List Question → List KeptQuestion
 kept_questions hints questions = if is_hinted hints.qr hint.QR_QUESTIONS then map kept_question (drop 1 questions) else []
 
--- the records whose types are listed, in their order, where the hint of their list is set
+-- the resource records whose types are listed, in their order, where the hint of their list is set
 abbrev pub kept_records : Params → ℕ → List Rr → List KeptRr
 kept_records p hint records = if is_hinted p.hints.qr hint then map (kept_rr p.hints) (filter (is_listed_record p.rr_types) records) else []
 
@@ -67,18 +67,18 @@ response_lists p m = record {
 abbrev pub no_lists : KeptLists
 no_lists = record { question = []; answer = []; authority = []; additional = [] }
 
--- so many of these records have a type that is not listed
+-- so many of these resource records have a type that is not listed
 abbrev pub unlisted_count : List ℕ → List Rr → ℕ
 unlisted_count types records = count_by (λ r. not (is_listed_record types r)) records
 
--- the records of a query that are dropped for their type, whatever the hints are; its OPT record is none of them
+-- the resource records of a query that are dropped for their type, whatever the hints are; its OPT record is none of them
 abbrev pub query_dropped : List ℕ → Message → ℕ
 query_dropped types m = unlisted_count types m.answers + unlisted_count types m.authority + unlisted_count types (without_opt m.additional)
 
--- the records of a response that are dropped for their type
+-- the resource records of a response that are dropped for their type
 abbrev pub response_dropped : List ℕ → Message → ℕ
 response_dropped types m = unlisted_count types m.answers + unlisted_count types m.authority + unlisted_count types m.additional
 
--- the records in the messages of a record of events that are dropped for their type
+-- the resource records in the messages of a record of events that are dropped for their type
 abbrev pub dropped : List ℕ → RecordParts → ℕ
 dropped types r = option_map_or (query_dropped types) (query_message r) 0 + option_map_or (response_dropped types) (response_message r) 0

@@ -1,5 +1,5 @@
 -- Records: a query with its response, or an event that stands alone (RFC 8618 10).
-use Rattle.std.specs.Prelude.{◌≡◌, ℕ, List, Option, Some, None, option_and_then}
+use Rattle.std.specs.Prelude.{◌≡◌, ℕ, Bool, true, false, IsTrue, List, Option, Some, None, option_and_then}
 use Rattle.cd_message.specs.declared.message.Message as dns
 use Rattle.cd_ident.specs.declared.event.Body.{Body}
 use Rattle.cd_ident.specs.declared.event.Body.TheVariants.{Message, Payload, Nothing}
@@ -34,12 +34,12 @@ HasKinds (malformed e) = e.kind ≡ kind.Malformed
 HasKinds (discarded e) = e.kind ≡ kind.Discarded
 
 -- the event whose time, ends and ID are those of the record: the query, or else the only event
-abbrev pub lead : RecordParts → EventParts
-lead (pair query response) = query
-lead (unmatched_query e) = e
-lead (unmatched_response e) = e
-lead (malformed e) = e
-lead (discarded e) = e
+abbrev pub main_event : RecordParts → EventParts
+main_event (pair query response) = query
+main_event (unmatched_query e) = e
+main_event (unmatched_response e) = e
+main_event (malformed e) = e
+main_event (discarded e) = e
 
 -- the query of a record, where there is one
 abbrev pub query_of : RecordParts → Option EventParts
@@ -57,42 +57,50 @@ response_of (unmatched_response e) = Some e
 response_of (malformed e) = None
 response_of (discarded e) = None
 
--- the message of an event, where it has one
+-- the message in a body, where it is one
 abbrev pub message_in : Body → Option dns.Message
 message_in (Message m) = Some m
 message_in (Payload p) = None
 message_in Nothing = None
 
 -- the message of an event, where it has one
-abbrev pub message_of : EventParts → Option dns.Message
-message_of e = message_in e.body
+abbrev pub event_message : EventParts → Option dns.Message
+event_message e = message_in e.body
 
 -- the message of the query
 abbrev pub query_message : RecordParts → Option dns.Message
-query_message r = option_and_then message_of (query_of r)
+query_message r = option_and_then event_message (query_of r)
 
 -- the message of the response
 abbrev pub response_message : RecordParts → Option dns.Message
-response_message r = option_and_then message_of (response_of r)
+response_message r = option_and_then event_message (response_of r)
 
--- the bytes of a payload that is no message
+-- the payload of a malformed message, in a body
 abbrev pub payload_in : Body → Option (List ℕ)
 payload_in (Message m) = None
 payload_in (Payload p) = Some p
 payload_in Nothing = None
 
--- the record is an item of a block: a pair, a query or a response
-abbrev pub IsItem : RecordParts → Type 0
-IsItem (pair query response) = Unit {0}
-IsItem (unmatched_query e) = Unit {0}
-IsItem (unmatched_response e) = Unit {0}
-IsItem (malformed e) = ⊥
-IsItem (discarded e) = ⊥
+-- whether a record is an item of a block: a pair, a query or a response
+abbrev pub is_item : RecordParts → Bool
+is_item (pair query response) = true
+is_item (unmatched_query e) = true
+is_item (unmatched_response e) = true
+is_item (malformed e) = false
+is_item (discarded e) = false
 
--- the record is a payload that is no message
+-- whether a record is a malformed message: a payload that is no message
+abbrev pub is_malformed : RecordParts → Bool
+is_malformed (pair query response) = false
+is_malformed (unmatched_query e) = false
+is_malformed (unmatched_response e) = false
+is_malformed (malformed e) = true
+is_malformed (discarded e) = false
+
+-- a pair, a query or a response
+abbrev pub IsItem : RecordParts → Type 0
+IsItem r = IsTrue (is_item r)
+
+-- a malformed message
 abbrev pub IsMalformed : RecordParts → Type 0
-IsMalformed (pair query response) = ⊥
-IsMalformed (unmatched_query e) = ⊥
-IsMalformed (unmatched_response e) = ⊥
-IsMalformed (malformed e) = Unit {0}
-IsMalformed (discarded e) = ⊥
+IsMalformed r = IsTrue (is_malformed r)

@@ -9,11 +9,14 @@
 #![tactic(auto)]
 
 mod address_prefix;
+mod copies;
 mod hint;
 mod interval;
 mod item;
 mod law;
 mod listing;
+mod lists;
+mod malformed;
 mod options;
 mod record;
 mod settings;
@@ -27,9 +30,10 @@ mod validity;
 
 pub use address_prefix::prefix;
 pub use interval::Interval;
-pub use item::{kept_item, kept_malformed};
+pub use item::kept_item;
 pub use law::whole_addresses_stay;
 pub use listing::{opcodes_of, types_of};
+pub use malformed::kept_malformed;
 pub use options::{ListOption, NumberOption};
 pub use record::Rec;
 pub use settings::{Settings, default_settings};

@@ -4,7 +4,7 @@ ghost use Rattle.std.specs.Prelude.{◌≡◌, IfSome};
 ghost use Rattle.std.specs.Option.{option_copied, option_map};
 ghost use Rattle.cd_message.specs.Valid.{Valid};
 ghost use Rattle.cd_ident.specs.Keys.{parts_of};
-ghost use Rattle.cd_hints.specs.Records.{message_of};
+ghost use Rattle.cd_hints.specs.Records.{event_message};
 
 use cd_ident::{Body, Event};
 use cd_message::Message;
@@ -27,7 +27,7 @@ pub enum Rec {
 
 // The message of an event, where it has one.
 fn message_of(event: &Event) -> Option<&Message>
-    ensures message { option_copied result ≡ message_of (parts_of event.now) }
+    ensures message { option_copied result ≡ event_message (parts_of event.now) }
     ensures valid { IfSome result (λ m. Valid m.now) }
 {
     match &event.body {
@@ -38,12 +38,12 @@ fn message_of(event: &Event) -> Option<&Message>
 }
 
 impl Rec {
-    ghost use Rattle.cd_hints.specs.Records.{record_parts, lead, query_of, response_of, query_message, response_message};
-    ghost use Rattle.cd_hints.specs.Items.{lead_message};
+    ghost use Rattle.cd_hints.specs.Records.{record_parts, main_event, query_of, response_of, query_message, response_message};
+    ghost use Rattle.cd_hints.specs.Items.{main_message};
 
     /// The event whose time, ends and ID are those of the record: the query, or else the only event.
-    pub fn lead(&self) -> &Event
-        ensures { parts_of result.now ≡ lead (record_parts self.now) }
+    pub fn main_event(&self) -> &Event
+        ensures { parts_of result.now ≡ main_event (record_parts self.now) }
     {
         match self {
             Rec::Pair { query, response: _ } => query,
@@ -80,12 +80,12 @@ impl Rec {
         }
     }
 
-    // The message of the lead.
-    pub(crate) fn lead_message(&self) -> Option<&Message>
-        ensures message { option_copied result ≡ lead_message (record_parts self.now) }
+    // The message of the event.
+    pub(crate) fn main_message(&self) -> Option<&Message>
+        ensures message { option_copied result ≡ main_message (record_parts self.now) }
         ensures valid { IfSome result (λ m. Valid m.now) }
     {
-        message_of(self.lead())
+        message_of(self.main_event())
     }
 
     // The message of the query, where there is one.

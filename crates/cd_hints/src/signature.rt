@@ -203,19 +203,19 @@ pub(crate) fn kept_signature(
     ensures { IfOk result (λ signature. signature ≡ Items.kept_signature params.now (record_parts rec.now)) }
 {
     let hints = params.hints.sig;
-    let lead = rec.lead();
-    let message = rec.lead_message();
+    let event = rec.main_event();
+    let message = rec.main_message();
     let query = rec.query_message();
     let response = rec.response_message();
     let opt = opt_in(query);
     let counts = record_counts(query);
     Ok(KeptSig {
-        server_address: kept_server_address(alloc, params, &lead.server)?,
-        server_port: kept(hints, SIG_SERVER_PORT, Some(lead.server_port)),
+        server_address: kept_server_address(alloc, params, &event.server)?,
+        server_port: kept(hints, SIG_SERVER_PORT, Some(event.server_port)),
         transport_flags: kept(
             hints,
             SIG_TRANSPORT_FLAGS,
-            Some(transport_flags(lead, is_query_trailing(rec))),
+            Some(transport_flags(event, is_query_trailing(rec))),
         ),
         sig_flags: kept(hints, SIG_SIG_FLAGS, Some(signature_flags(query, response))),
         opcode: kept(hints, SIG_OPCODE, opcode(message)),

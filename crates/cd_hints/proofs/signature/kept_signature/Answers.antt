@@ -1,5 +1,5 @@
 use Rattle.std.proofs.Common.{rules}
-use Rattle.cd_hints.proofs.Signatures.{signature_by_fields}
+use Rattle.cd_hints.proofs.SignatureFields.{signature_by_fields}
 use Rattle.cd_hints.proofs.signature.kept_signature.Goals as goal
 
 pub returns : goal.returns
