@@ -1,0 +1,2 @@
+mod RunLists
+pub mod Histories
