@@ -31,7 +31,7 @@ StandsFor_fresh kept empty = record {
 }
 
 -- a record joins the present run
-StandsFor_joined : (old new : Kept) (r : RecordParts) (pushed : List RecordParts) (runs : List (List RecordParts)) → Joins old r new → StandsFor old pushed runs →
+pub StandsFor_joined : (old new : Kept) (r : RecordParts) (pushed : List RecordParts) (runs : List (List RecordParts)) → Joins old r new → StandsFor old pushed runs →
     StandsFor new (pushed ++ r ∷ []) (runs ++ [])
 StandsFor_joined old new r pushed runs joins before =
     let after : StandsFor (record old { run = with_record old r }) (pushed ++ r ∷ []) runs = record {
@@ -41,7 +41,7 @@ StandsFor_joined old new r pushed runs joins before =
     rw (joins.kept, append-nil runs) after
 
 -- a record begins the next run
-StandsFor_cut : (old new : Kept) (r : RecordParts) (given : RunParts) (pushed : List RecordParts) (runs : List (List RecordParts)) → IsAdmissible old.limits (r ∷ []) →
+pub StandsFor_cut : (old new : Kept) (r : RecordParts) (given : RunParts) (pushed : List RecordParts) (runs : List (List RecordParts)) → IsAdmissible old.limits (r ∷ []) →
     Cuts old r given new → StandsFor old pushed runs → StandsFor new (pushed ++ r ∷ []) (runs ++ given.records ∷ [])
 StandsFor_cut old new r given pushed runs alone cuts before =
     let after : StandsFor (record old { run = r ∷ [] }) (pushed ++ r ∷ []) (runs ++ old.run ∷ []) = record {

@@ -1,2 +1,4 @@
 mod RunLists
+mod Fronts
+mod OneCut
 pub mod Histories
