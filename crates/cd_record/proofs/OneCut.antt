@@ -1,13 +1,13 @@
 -- Records of which each may stand in a block alone are cut into runs in exactly one way.
-use Rattle.std.proofs.Common.{◌≡◌, ◌≢◌, List, [], ◌∷◌, ◌++◌, refl, ap, sym, ◌∙◌, subst, append_assoc, inl, inr}
+use Rattle.std.proofs.Common.{◌≡◌, ◌≢◌, List, [], ◌∷◌, ◌++◌, refl, sym, ◌∙◌, subst, append_assoc, inl, inr}
 use Rattle.std.specs.List.{All}
 use Rattle.std.proofs.lemmas.List.{append-nil}
 use Rattle.std.proofs.lemmas.List.Elements.{All-head, All-tail}
 use Rattle.cd_hints.specs.Records.{RecordParts}
-use Rattle.cd_record.specs.Blocks.{RunParts, run_of}
+use Rattle.cd_record.specs.Blocks.{run_of}
 use Rattle.cd_record.specs.Cutting.{Kept, StandsFor, as_runs}
-use Rattle.cd_record.specs.Laws.{IsAdmissibleAlone, HaveOneCut, RunsAreOne}
-use Rattle.cd_record.specs.Runs.{Limits, IsAdmissible, AreLong, AreRuns}
+use Rattle.cd_record.specs.Laws.{IsAdmissibleAlone, RunsAreOne}
+use Rattle.cd_record.specs.Runs.{Limits, IsAdmissible, AreRuns}
 use Rattle.cd_record.proofs.Fronts.{GoesOn, fronts_of_one, same, first_shorter, second_shorter, IsAdmissible_front, admissible_or_not}
 use Rattle.cd_record.proofs.Histories.{StandsFor_fresh, StandsFor_joined, StandsFor_cut}
 use Rattle.cd_record.proofs.RunLists.{records_of}
@@ -94,7 +94,7 @@ one_cut limits records (run ∷ runs) (other ∷ others) all also =
       | second_shorter on ↦ absurd (not_longer limits records other run others (records_of runs) also on (All-head (IsAdmissible limits) run runs all.admissible))
     ]
 
--- the law
+-- the runs are those of a cutter that takes the records one by one, and there are no others
 pub cut_in_one_way : RunsAreOne
 cut_in_one_way limits records alone =
     let cut : Cut limits records = cut_rest limits records [] alone (record { runs = []; run = []; stands = StandsFor_fresh (kept_with limits []) refl }) in
