@@ -1,0 +1,5 @@
+mod RunLists
+mod Fronts
+mod OneCut
+mod OneRecord
+pub mod Histories
