@@ -9,6 +9,7 @@
 #![tactic(auto)]
 
 mod address_prefix;
+mod hint;
 mod interval;
 mod item;
 mod law;
