@@ -3,3 +3,4 @@ mod Listed
 mod HintBits
 mod EachOption
 mod WholeBytes
+mod Searching

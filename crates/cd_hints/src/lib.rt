@@ -9,10 +9,12 @@
 #![tactic(auto)]
 
 mod address_prefix;
+mod copies;
 mod hint;
 mod interval;
 mod item;
 mod law;
+mod listed_types;
 mod listing;
 mod options;
 mod record;
