@@ -4,3 +4,4 @@ mod HintBits
 mod EachOption
 mod WholeBytes
 mod Searching
+mod Keeping

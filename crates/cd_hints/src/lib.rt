@@ -16,6 +16,7 @@ mod item;
 mod law;
 mod listed_types;
 mod listing;
+mod lists;
 mod options;
 mod record;
 mod settings;
