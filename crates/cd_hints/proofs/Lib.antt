@@ -6,3 +6,5 @@ mod WholeBytes
 mod HeaderFlags
 mod SignatureFields
 mod ItemFields
+mod Searching
+mod Keeping

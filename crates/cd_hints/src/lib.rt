@@ -14,6 +14,7 @@ mod hint;
 mod interval;
 mod item;
 mod law;
+mod listed_types;
 mod listing;
 mod lists;
 mod malformed;

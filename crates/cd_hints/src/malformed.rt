@@ -24,7 +24,7 @@ fn copy_payload(alloc: Global, body: &Body) -> Result<Option<Blob>, AllocError>
 {
     match body {
         Body::Payload(payload) => {
-            let copy = copy_blob(alloc, payload)?;
+            let copy = copy_blob(alloc, payload.as_slice())?;
             Ok(Some(copy))
         }
         Body::Message(_) => Ok(None),

@@ -11,6 +11,7 @@ ghost use Rattle.cd_hints.specs.Items;
 ghost use Rattle.cd_hints.specs.Records.{record_parts};
 ghost use Rattle.cd_hints.specs.Validity.{AreValidParams};
 
+use crate::copies::copy_blob;
 use crate::hint::{is_hinted, kept};
 use crate::record::Rec;
 use crate::signature_flags::{dns_flags, signature_flags, transport_flags};
@@ -176,8 +177,8 @@ fn kept_options(
     }
     match opt {
         Some(opt) => {
-            let options = Vec::from_slice(alloc, opt.rdata)?;
-            Ok(Some(Blob::from_vec(options)))
+            let options = copy_blob(alloc, opt.rdata)?;
+            Ok(Some(options))
         }
         None => Ok(None),
     }

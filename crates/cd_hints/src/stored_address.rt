@@ -7,6 +7,7 @@ ghost use Rattle.cd_hints.specs.Prefix.{width_of};
 ghost use Rattle.cd_hints.specs.Validity.{AreValidPrefixes};
 
 use crate::address_prefix::prefix;
+use crate::copies::copy_blob;
 use cd_name::Blob;
 use cd_packet::Addr;
 use std::alloc::{AllocError, Global};
@@ -17,8 +18,7 @@ fn stored_address(alloc: Global, bits: Option<u8>, addr: &Addr) -> Result<Blob, 
     ensures { IfOk result (λ bytes. bytes ≡ Addresses.stored_address bits addr.now) }
 {
     let (octets, size) = prefix(addr, bits);
-    let bytes = Vec::from_slice(alloc, &octets[..size])?;
-    Ok(Blob::from_vec(bytes))
+    copy_blob(alloc, &octets[..size])
 }
 
 // The bits that are kept of a client's address of this version of IP.
