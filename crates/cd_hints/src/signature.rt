@@ -18,8 +18,8 @@ use crate::signature_flags::{dns_flags, signature_flags, transport_flags};
 use crate::stored_address::server_address;
 use cd_block::hints::{
     SIG_ANCOUNT, SIG_ARCOUNT, SIG_CLASSTYPE, SIG_DNS_FLAGS, SIG_EDNS_VERSION, SIG_NSCOUNT,
-    SIG_OPCODE, SIG_OPT_RDATA, SIG_QDCOUNT, SIG_QUERY_RCODE, SIG_RESPONSE_RCODE, SIG_SERVER_ADDRESS,
-    SIG_SERVER_PORT, SIG_SIG_FLAGS, SIG_TRANSPORT_FLAGS, SIG_UDP_SIZE,
+    SIG_OPCODE, SIG_OPT_RDATA, SIG_QDCOUNT, SIG_QUERY_RCODE, SIG_RESPONSE_RCODE,
+    SIG_SERVER_ADDRESS, SIG_SERVER_PORT, SIG_SIG_FLAGS, SIG_TRANSPORT_FLAGS, SIG_UDP_SIZE,
 };
 use cd_block::{KeptSig, Params};
 use cd_edns::{OptRef, full_rcode, opt_ref};

@@ -40,7 +40,11 @@ fn server_prefix(prefixes: &[Option<u8>; 4], v6: bool) -> Option<u8>
 }
 
 /// The bytes that are kept of a client's address.
-pub(crate) fn client_address(alloc: Global, prefixes: &[Option<u8>; 4], addr: &Addr) -> Result<Blob, AllocError>
+pub(crate) fn client_address(
+    alloc: Global,
+    prefixes: &[Option<u8>; 4],
+    addr: &Addr,
+) -> Result<Blob, AllocError>
     requires { AreValidPrefixes prefixes.now }
     ensures { IfOk result (λ bytes. bytes ≡ Addresses.client_address prefixes.now addr.now) }
 {
@@ -49,7 +53,11 @@ pub(crate) fn client_address(alloc: Global, prefixes: &[Option<u8>; 4], addr: &A
 }
 
 /// The bytes that are kept of a server's address.
-pub(crate) fn server_address(alloc: Global, prefixes: &[Option<u8>; 4], addr: &Addr) -> Result<Blob, AllocError>
+pub(crate) fn server_address(
+    alloc: Global,
+    prefixes: &[Option<u8>; 4],
+    addr: &Addr,
+) -> Result<Blob, AllocError>
     requires { AreValidPrefixes prefixes.now }
     ensures { IfOk result (λ bytes. bytes ≡ Addresses.server_address prefixes.now addr.now) }
 {

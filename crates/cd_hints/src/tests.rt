@@ -1,3 +1,10 @@
+//! Settings and their options, addresses, and what is kept of records.
+
+mod ends;
+mod hinted;
+mod items;
+mod records;
+
 use crate::{
     Interval, ListOption, NumberOption, Settings, default_settings, opcodes_of, prefix, types_of,
     valid,
