@@ -1,2 +1,3 @@
 pub mod ExactIds
 pub mod Exchanges
+pub mod WeightBounds

@@ -6,3 +6,4 @@ pub mod KeptEnds
 pub mod Events
 pub mod Keys
 pub mod IdentifierLaws
+pub mod EventWeights

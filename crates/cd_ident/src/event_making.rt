@@ -20,6 +20,10 @@ use cd_packet::Dgram;
 use cd_pairing::LEAST_WEIGHT;
 use std::alloc::{AllocError, Global};
 
+/// The greatest weight of the event of a datagram whose payload has at most 65,535 bytes. The least one is `LEAST_WEIGHT` of
+/// cd_pairing.
+pub const GREATEST_WEIGHT: u64 = 3_400_000;
+
 // The identifiers of what is no message, or is not listed.
 fn bare_ids(ends: &Ends) -> Ids
     ensures exact { result ≡ Identifiers.bare_ids (kept_ends ends.now) }

@@ -1,6 +1,7 @@
-//! Laws of identifiers, each the contract of a function that does nothing.
+//! Laws of events and their identifiers, each the contract of a function that does nothing.
 
 ghost use Rattle.cd_ident.specs.IdentifierLaws.{PrimariesAreExact, SecondariesAreExact, ResponsesHaveThePrimary};
+ghost use Rattle.cd_ident.specs.EventWeights.{EventWeightsAreBounded};
 ghost use Rattle.cd_ident.specs.Keys.{CompatibleIdsAreTheKeys};
 
 /// The identifiers of two events are compatible exactly as the pairing asks of their keys.
@@ -21,4 +22,9 @@ pub fn secondaries_are_exact()
 /// A response that goes back where a query came from, with its ID and opcode, has its primary.
 pub fn responses_have_the_primary()
     ensures { ResponsesHaveThePrimary }
+{}
+
+/// The event of a datagram weighs at least `LEAST_WEIGHT`, and at most `GREATEST_WEIGHT` where the payload has at most 65,535 bytes.
+pub fn event_weights_are_bounded()
+    ensures { EventWeightsAreBounded }
 {}

@@ -25,11 +25,11 @@ mod secondary;
 mod tests;
 
 pub use event::{Body, Event, Kind};
-pub use event_making::event_of;
+pub use event_making::{GREATEST_WEIGHT, event_of};
 pub use event_rules::EventRules;
 pub use header::opcode_of;
 pub use identifiers::{Ids, compatible_ids};
 pub use law::{
-    compatible_ids_are_the_keys, primaries_are_exact, responses_have_the_primary,
-    secondaries_are_exact,
+    compatible_ids_are_the_keys, event_weights_are_bounded, primaries_are_exact,
+    responses_have_the_primary, secondaries_are_exact,
 };

@@ -1,17 +1,13 @@
 -- The events of the bytes that a run takes weigh less than 2^63 together.
-use Rattle.std.proofs.Common.{◌≡◌, ℕ, ◌+◌, ◌*◌, ◌<◌, ◌≤◌, ◌^◌, Bool, true, false, List, [], ◌∷◌, length, map, take, Option, Some, None, Result, Ok, Err, refl, ap, sym, ◌∙◌, arith, inl, inr}
+use Rattle.std.proofs.Common.{◌≡◌, ℕ, ◌+◌, ◌*◌, ◌<◌, ◌≤◌, ◌^◌, Bool, true, false, List, [], ◌∷◌, length, map, take, Option, Some, None, refl, ap, sym, ◌∙◌, arith, inl, inr}
 use Rattle.std.specs.Prelude.{nat_eq, ◌&&◌}
 use Rattle.std.specs.List.{sum_by, filter_map}
 use Rattle.std.proofs.lemmas.Bool.{cases_Bool, eqb-true}
 use Rattle.std.proofs.lemmas.List.{length-take}
 use Rattle.std.proofs.lemmas.List.Sums.{sum_by-cons}
-use Rattle.cd_message.specs.declared.message.Message.{Message}
-use Rattle.cd_message.specs.declared.message.MsgWhy.{MsgWhy}
-use Rattle.cd_message.specs.Messages.{message_of}
-use Rattle.cd_message.proofs.Weights.{read_messages_are_light}
 use Rattle.cd_pairing.specs.Events.{EventView}
-use Rattle.cd_ident.specs.Events.{EventParts, event_parts, parts_of_reading}
-use Rattle.cd_ident.specs.Headers.{is_listed, opcode_of}
+use Rattle.cd_ident.proofs.WeightBounds.{event_weights_are_bounded}
+use Rattle.cd_ident.specs.Events.{EventParts, event_parts}
 use Rattle.cd_ident.specs.Keys.{parts_of, view_of}
 use Rattle.cd_ident.specs.declared.event.Event.{Event}
 use Rattle.cd_packet.specs.Layers.{Datagram, Found, datagram, skipped, layer_of}
@@ -26,17 +22,8 @@ use Rattle.cd_top.specs.declared.status.Status.{Status}
 use Rattle.cd_top.specs.declared.status.Status.TheVariants as status
 
 -- the weight of an event of a header alone
-reading_weight : (d : Datagram) (r : Result (Message × ℕ) MsgWhy) → length d.payload ≡ 12 → message_of d.payload ≡ r → (parts_of_reading event_rules d r).weight ≤ 3400000
-reading_weight d (Err why) twelve is = omega arith
-reading_weight d (Ok x) twelve is =
-    elim (cases_Bool (is_listed event_rules.opcodes (opcode_of (x.0).bits))) [
-      | inl listed ↦ rw listed (read_messages_are_light d.payload x.0 x.1 is (omega arith))
-      | inr other ↦ rw other (omega arith)
-    ]
-
 parts_weight : (d : Datagram) → length d.payload ≡ 12 → (event_parts event_rules d).weight ≤ 3400000
-unfolding event_parts
-parts_weight d twelve = reading_weight d (message_of d.payload) twelve refl
+parts_weight d twelve = (event_weights_are_bounded event_rules d (omega arith)).greatest
 
 both_front : (b c : Bool) → (b && c) ≡ true → b ≡ true
 both_front true c e = refl
