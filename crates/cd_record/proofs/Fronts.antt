@@ -3,8 +3,8 @@ use Rattle.std.proofs.Common.{◌≡◌, cond, List, [], ◌∷◌, ◌++◌, re
 use Rattle.std.proofs.lemmas.Bool.{cases_lt}
 use Rattle.std.specs.List.{count_by}
 use Rattle.std.proofs.lemmas.List.Sums.{sum_by-append}
-use Rattle.cd_hints.specs.Records.{RecordParts}
-use Rattle.cd_record.specs.Runs.{Limits, IsAdmissible, is_item, is_malformed, record_weight, run_weight}
+use Rattle.cd_hints.specs.Records.{RecordParts, is_item, is_malformed}
+use Rattle.cd_record.specs.Runs.{Limits, IsAdmissible, record_weight, run_weight}
 
 -- of two fronts of one list, one goes on where the other ends, before what is left behind that
 pub record GoesOn {X : Type 0} (short long behind_short behind_long : List X) : Type 0 where

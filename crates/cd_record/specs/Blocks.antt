@@ -11,9 +11,8 @@ use Rattle.cd_block.specs.declared.stamp.Stamp.{Stamp}
 use Rattle.cd_block.specs.declared.stats.Stats.{Stats}
 use Rattle.cd_hints.specs.Hinted.{is_hinted}
 use Rattle.cd_hints.specs.Items.{kept_item, kept_malformed}
-use Rattle.cd_hints.specs.Records.{RecordParts, record_parts, HasKinds}
+use Rattle.cd_hints.specs.Records.{RecordParts, record_parts, HasKinds, is_item, is_malformed}
 use Rattle.cd_record.specs.Earliest.{earliest_time}
-use Rattle.cd_record.specs.Runs.{is_item, is_malformed}
 use Rattle.cd_record.specs.Statistics.{statistics}
 use Rattle.cd_record.specs.declared.block_records.BlockRecords.{BlockRecords}
 

@@ -1,9 +1,8 @@
 -- Laws of runs.
-use Rattle.std.specs.Prelude.{◌≡◌, ℕ, ◌≤◌, List, [], ◌∷◌, length}
+use Rattle.std.specs.Prelude.{◌≡◌, ◌≤◌, List, [], ◌∷◌}
 use Rattle.std.specs.List.{All}
-use Rattle.cd_ident.specs.Events.{EventParts, event_parts}
-use Rattle.cd_ident.specs.declared.event_rules.EventRules.{EventRules}
-use Rattle.cd_packet.specs.Layers.{Datagram}
+use Rattle.cd_ident.specs.Events.{EventParts}
+use Rattle.cd_ident.specs.declared.event_making.TheConstants.{GREATEST_WEIGHT}
 use Rattle.cd_hints.specs.Records.{RecordParts, pair, unmatched_query, unmatched_response, malformed, discarded}
 use Rattle.cd_hints.specs.Validity.{IsValid}
 use Rattle.cd_hints.specs.declared.settings.Settings.{Settings}
@@ -23,12 +22,9 @@ pub record HaveOneCut (limits : Limits) (records : List RecordParts) : Type 0 wh
 abbrev pub RunsAreOne : Type 0
 RunsAreOne = (limits : Limits) (records : List RecordParts) → All (IsAdmissibleAlone limits) records → HaveOneCut limits records
 
--- the event of a datagram of at most 65,535 bytes
-pub record IsOfDatagram (e : EventParts) : Type 0 where
-  pub rules : EventRules
-  pub datagram : Datagram
-  pub fits : length datagram.payload ≤ 65535
-  pub same : e ≡ event_parts rules datagram
+-- the event weighs at most as much as the heaviest event of a datagram
+abbrev pub IsLight : EventParts → Type 0
+IsLight e = e.weight ≤ GREATEST_WEIGHT
 
 -- the events of a record
 abbrev pub events_of : RecordParts → List EventParts
@@ -38,7 +34,7 @@ events_of (unmatched_response e) = e ∷ []
 events_of (malformed e) = e ∷ []
 events_of (discarded e) = e ∷ []
 
--- a record of events of datagrams may stand in a block alone, whatever the valid settings are
+-- a record whose events weigh no more than those of datagrams may stand in a block alone, whatever the valid settings are
 abbrev pub OneRecordIsAdmissible : Type 0
-OneRecordIsAdmissible = (settings : Settings) (r : RecordParts) → IsValid settings → All IsOfDatagram (events_of r) →
+OneRecordIsAdmissible = (settings : Settings) (r : RecordParts) → IsValid settings → All IsLight (events_of r) →
     IsAdmissibleAlone (limits_of settings) r

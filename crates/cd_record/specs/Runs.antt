@@ -1,24 +1,8 @@
 -- Runs: the records of a block. A list of records is cut into runs from the left, each as long as it can be.
-use Rattle.std.specs.Prelude.{◌≡◌, ◌≢◌, ℕ, ◌+◌, ◌≤◌, Bool, true, false, List, [], ◌∷◌, ◌++◌, take}
+use Rattle.std.specs.Prelude.{◌≡◌, ◌≢◌, ℕ, ◌+◌, ◌≤◌, List, [], ◌∷◌, ◌++◌, take}
 use Rattle.std.specs.List.{All, sum_by, count_by, flat_map}
-use Rattle.cd_hints.specs.Records.{RecordParts, pair, unmatched_query, unmatched_response, malformed, discarded}
+use Rattle.cd_hints.specs.Records.{RecordParts, pair, unmatched_query, unmatched_response, malformed, discarded, is_item, is_malformed}
 use Rattle.cd_hints.specs.declared.settings.Settings.{Settings}
-
--- whether a record is an item of a block: a pair, a query or a response
-abbrev pub is_item : RecordParts → Bool
-is_item (pair query response) = true
-is_item (unmatched_query e) = true
-is_item (unmatched_response e) = true
-is_item (malformed e) = false
-is_item (discarded e) = false
-
--- whether a record is a payload that is no message
-abbrev pub is_malformed : RecordParts → Bool
-is_malformed (pair query response) = false
-is_malformed (unmatched_query e) = false
-is_malformed (unmatched_response e) = false
-is_malformed (malformed e) = true
-is_malformed (discarded e) = false
 
 -- the weight of a record: that of its events
 abbrev pub record_weight : RecordParts → ℕ
@@ -34,9 +18,9 @@ run_weight run = sum_by record_weight run
 
 -- what a run is limited by
 pub record Limits : Type 0 where
-  -- so many items, and so many malformed records
+  -- the most items, and the most malformed messages
   pub items : ℕ
-  -- so much weight
+  -- the most weight
   pub weight : ℕ
 
 -- the limits of these settings

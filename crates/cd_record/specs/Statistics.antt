@@ -2,8 +2,7 @@
 use Rattle.std.specs.Prelude.{ℕ, Bool, true, false, List}
 use Rattle.std.specs.List.{sum_by, count_by}
 use Rattle.cd_block.specs.declared.stats.Stats.{Stats}
-use Rattle.cd_hints.specs.Records.{RecordParts, pair, unmatched_query, unmatched_response, malformed, discarded}
-use Rattle.cd_record.specs.Runs.{is_item, is_malformed}
+use Rattle.cd_hints.specs.Records.{RecordParts, pair, unmatched_query, unmatched_response, malformed, discarded, is_item, is_malformed}
 
 -- the well-formed messages of a record: two of a pair, and one that is discarded too
 abbrev pub processed_messages : RecordParts → ℕ

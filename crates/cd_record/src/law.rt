@@ -7,7 +7,8 @@ pub fn runs_are_one()
     ensures { RunsAreOne }
 {}
 
-/// A record of events of datagrams may stand in a block alone, whatever the valid settings are.
+/// A record may stand in a block alone, whatever the valid settings are, where each of its events weighs at most
+/// `GREATEST_WEIGHT` of cd_ident, as the event of a datagram does.
 pub fn one_record_is_admissible()
     ensures { OneRecordIsAdmissible }
 {}
