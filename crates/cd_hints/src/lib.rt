@@ -10,6 +10,7 @@
 
 mod address_prefix;
 mod copies;
+mod dropping;
 mod hint;
 mod interval;
 mod item;
@@ -25,6 +26,7 @@ mod tests;
 mod validity;
 
 pub use address_prefix::prefix;
+pub use dropping::dropped;
 pub use interval::Interval;
 pub use item::{kept_item, kept_malformed};
 pub use law::whole_addresses_stay;
