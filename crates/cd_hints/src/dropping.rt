@@ -27,7 +27,7 @@ fn unlisted_count(types: &[u16], records: &[Rr]) -> u64
 }
 
 /// How many records that are no OPT records have a type that is not listed.
-fn unlisted_but_opt_count(types: &[u16], records: &[Rr]) -> u64
+fn unlisted_count_without_opt(types: &[u16], records: &[Rr]) -> u64
     requires { IsStrictlyIncreasing types.now }
     ensures exact { result ≡ Lists.unlisted_count types.now (Lists.without_opt records.now) }
     ensures bound { result ≤ length records.now }
@@ -48,7 +48,7 @@ fn query_dropped(types: &[u16], query: &Message) -> u64
 {
     unlisted_count(types, query.answers.as_slice())
         + unlisted_count(types, query.authority.as_slice())
-        + unlisted_but_opt_count(types, query.additional.as_slice())
+        + unlisted_count_without_opt(types, query.additional.as_slice())
 }
 
 /// The records of a response's message that are dropped.
