@@ -40,7 +40,7 @@ fn kept_question(alloc: Global, question: &Question) -> Result<KeptQuestion, All
 fn kept_questions(
     alloc: Global,
     hints: Hints,
-    questions: &[Question],
+    questions: &List<Question>,
 ) -> Result<List<KeptQuestion>, AllocError>
     ensures { IfOk result (λ list. list ≡ Lists.kept_questions hints questions.now) }
 {
@@ -48,7 +48,7 @@ fn kept_questions(
         return Ok(no_items(alloc));
     }
     let mut list = Vec::new(alloc);
-    'later: for question in questions.iter().skip(1) {
+    'later: for question in questions.as_slice().iter().skip(1) {
         list.push(kept_question(alloc, question)?)?;
     }
     Ok(List::from_vec(list))
@@ -116,18 +116,31 @@ fn kept_records(
     alloc: Global,
     params: &Params,
     hint: u32,
-    with_opt: bool,
-    records: &[Rr],
+    records: &List<Rr>,
 ) -> Result<List<KeptRr>, AllocError>
     requires { IsStrictlyIncreasing params.now.rr_types }
-    ensures { IfOk result (λ list. list ≡
-        Lists.kept_records params.now hint (if with_opt then records.now else Lists.without_opt records.now)) }
+    ensures { IfOk result (λ list. list ≡ Lists.kept_records params.now hint records.now) }
 {
-    if is_hinted(params.hints.qr, hint) {
-        listed_records(alloc, params, with_opt, records)
-    } else {
-        Ok(no_items(alloc))
+    if !is_hinted(params.hints.qr, hint) {
+        return Ok(no_items(alloc));
     }
+    listed_records(alloc, params, true, records.as_slice())
+}
+
+/// The same of the records that are no OPT records.
+fn kept_records_without_opt(
+    alloc: Global,
+    params: &Params,
+    hint: u32,
+    records: &List<Rr>,
+) -> Result<List<KeptRr>, AllocError>
+    requires { IsStrictlyIncreasing params.now.rr_types }
+    ensures { IfOk result (λ list. list ≡ Lists.kept_records params.now hint (Lists.without_opt records.now)) }
+{
+    if !is_hinted(params.hints.qr, hint) {
+        return Ok(no_items(alloc));
+    }
+    listed_records(alloc, params, false, records.as_slice())
 }
 
 /// The lists of a query; its OPT record is in its signature, and not here. An `Err` is for want of memory.
@@ -140,27 +153,14 @@ pub(crate) fn query_lists(
     ensures { IfOk result (λ lists. lists ≡ Lists.query_lists params.now query.now) }
 {
     Ok(KeptLists {
-        question: kept_questions(alloc, params.hints, query.questions.as_slice())?,
-        answer: kept_records(
-            alloc,
-            params,
-            QR_QUERY_ANSWER,
-            true,
-            query.answers.as_slice(),
-        )?,
-        authority: kept_records(
-            alloc,
-            params,
-            QR_QUERY_AUTHORITY,
-            true,
-            query.authority.as_slice(),
-        )?,
-        additional: kept_records(
+        question: kept_questions(alloc, params.hints, &query.questions)?,
+        answer: kept_records(alloc, params, QR_QUERY_ANSWER, &query.answers)?,
+        authority: kept_records(alloc, params, QR_QUERY_AUTHORITY, &query.authority)?,
+        additional: kept_records_without_opt(
             alloc,
             params,
             QR_QUERY_ADDITIONAL,
-            false,
-            query.additional.as_slice(),
+            &query.additional,
         )?,
     })
 }
@@ -175,28 +175,10 @@ pub(crate) fn response_lists(
     ensures { IfOk result (λ lists. lists ≡ Lists.response_lists params.now response.now) }
 {
     Ok(KeptLists {
-        question: kept_questions(alloc, params.hints, response.questions.as_slice())?,
-        answer: kept_records(
-            alloc,
-            params,
-            QR_RESPONSE_ANSWER,
-            true,
-            response.answers.as_slice(),
-        )?,
-        authority: kept_records(
-            alloc,
-            params,
-            QR_RESPONSE_AUTHORITY,
-            true,
-            response.authority.as_slice(),
-        )?,
-        additional: kept_records(
-            alloc,
-            params,
-            QR_RESPONSE_ADDITIONAL,
-            true,
-            response.additional.as_slice(),
-        )?,
+        question: kept_questions(alloc, params.hints, &response.questions)?,
+        answer: kept_records(alloc, params, QR_RESPONSE_ANSWER, &response.answers)?,
+        authority: kept_records(alloc, params, QR_RESPONSE_AUTHORITY, &response.authority)?,
+        additional: kept_records(alloc, params, QR_RESPONSE_ADDITIONAL, &response.additional)?,
     })
 }
 
