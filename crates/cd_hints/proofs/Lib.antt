@@ -6,5 +6,4 @@ mod WholeBytes
 mod HeaderFlags
 mod SignatureFields
 mod ItemFields
-mod Searching
 mod Keeping

@@ -1,12 +1,10 @@
 //! The records of messages that are dropped for their type.
 
 ghost use Rattle.std.specs.Prelude.{◌≡◌, ◌≤◌, ◌*◌, length};
-ghost use Rattle.std.specs.List.Sorted.{IsStrictlyIncreasing};
 ghost use Rattle.std.specs.Option.{option_map_or};
 ghost use Rattle.cd_message.specs.Valid.{Valid};
 ghost use Rattle.cd_hints.specs.Lists;
 ghost use Rattle.cd_hints.specs.Records.{record_parts, HasKinds, message_in};
-ghost use Rattle.cd_hints.specs.Validity.{IsValid};
 
 use crate::listed_types::is_listed_type;
 use crate::record::Rec;
@@ -16,7 +14,6 @@ use cd_message::{Message, OPT, Rr};
 
 /// How many records have a type that is not listed.
 fn unlisted_count(types: &[u16], records: &[Rr]) -> u64
-    requires { IsStrictlyIncreasing types.now }
     ensures exact { result ≡ Lists.unlisted_count types.now records.now }
     ensures bound { result ≤ length records.now }
 {
@@ -28,7 +25,6 @@ fn unlisted_count(types: &[u16], records: &[Rr]) -> u64
 
 /// How many records that are no OPT records have a type that is not listed.
 fn unlisted_count_without_opt(types: &[u16], records: &[Rr]) -> u64
-    requires { IsStrictlyIncreasing types.now }
     ensures exact { result ≡ Lists.unlisted_count types.now (Lists.without_opt records.now) }
     ensures bound { result ≤ length records.now }
 {
@@ -41,8 +37,7 @@ fn unlisted_count_without_opt(types: &[u16], records: &[Rr]) -> u64
 
 /// The records of a query's message that are dropped. Its OPT record is none of them.
 fn query_dropped(types: &[u16], query: &Message) -> u64
-    requires ascends { IsStrictlyIncreasing types.now }
-    requires valid { Valid query.now }
+    requires { Valid query.now }
     ensures exact { result ≡ Lists.query_dropped types.now query.now }
     ensures bound { result ≤ 3 * 65535 }
 {
@@ -53,8 +48,7 @@ fn query_dropped(types: &[u16], query: &Message) -> u64
 
 /// The records of a response's message that are dropped.
 fn response_dropped(types: &[u16], response: &Message) -> u64
-    requires ascends { IsStrictlyIncreasing types.now }
-    requires valid { Valid response.now }
+    requires { Valid response.now }
     ensures exact { result ≡ Lists.response_dropped types.now response.now }
     ensures bound { result ≤ 3 * 65535 }
 {
@@ -65,7 +59,6 @@ fn response_dropped(types: &[u16], response: &Message) -> u64
 
 /// The records of a query that are dropped, where it has a message.
 fn dropped_of_query(types: &[u16], query: &Event) -> u64
-    requires { IsStrictlyIncreasing types.now }
     ensures exact { result ≡ option_map_or (Lists.query_dropped types.now) (message_in query.now.body) 0 }
     ensures bound { result ≤ 3 * 65535 }
 {
@@ -77,7 +70,6 @@ fn dropped_of_query(types: &[u16], query: &Event) -> u64
 
 /// The records of a response that are dropped, where it has a message.
 fn dropped_of_response(types: &[u16], response: &Event) -> u64
-    requires { IsStrictlyIncreasing types.now }
     ensures exact { result ≡ option_map_or (Lists.response_dropped types.now) (message_in response.now.body) 0 }
     ensures bound { result ≤ 3 * 65535 }
 {
@@ -90,8 +82,7 @@ fn dropped_of_response(types: &[u16], response: &Event) -> u64
 /// How many records in the messages of a record have a type that is not listed, whatever the hints are. The OPT record of a
 /// query is not counted. 0 for a payload that is no message, and for a message whose opcode is not listed.
 pub fn dropped(settings: &Settings, rec: &Rec) -> u64
-    requires valid { IsValid settings.now }
-    requires kinds { HasKinds (record_parts rec.now) }
+    requires { HasKinds (record_parts rec.now) }
     ensures { result ≡ Lists.dropped settings.now.params.rr_types (record_parts rec.now) }
 {
     let types = settings.params.rr_types.as_slice();

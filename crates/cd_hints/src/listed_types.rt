@@ -2,12 +2,14 @@
 
 ghost use Rattle.std.specs.Prelude.{◌≡◌, nat_eq};
 ghost use Rattle.std.specs.List.{list_any};
-ghost use Rattle.std.specs.List.Sorted.{IsStrictlyIncreasing};
 
-/// Whether a type is one of those that are listed, which ascend, each once.
+/// Whether a type is one of those that are listed. Among types that ascend, as those of valid settings do, a binary search finds
+/// each that is listed.
 pub(crate) fn is_listed_type(types: &[u16], rtype: u16) -> bool
-    requires { IsStrictlyIncreasing types.now }
     ensures { result ≡ list_any (λ t. nat_eq t rtype) types.now }
 {
-    types.binary_search(&rtype).is_ok()
+    match types.binary_search(&rtype) {
+        Ok(_place) => true,
+        Err(_place) => types.contains(&rtype),
+    }
 }

@@ -1,7 +1,6 @@
 //! The questions and records that are kept of a message.
 
 ghost use Rattle.std.specs.Prelude.{◌≡◌, ◌||◌, ◌&&◌, not, Some, IfOk, [], map, filter, if◌then◌else◌};
-ghost use Rattle.std.specs.List.Sorted.{IsStrictlyIncreasing};
 ghost use Rattle.cd_message.specs.Valid.{is_opt};
 ghost use Rattle.cd_hints.specs.Hinted;
 ghost use Rattle.cd_hints.specs.Lists;
@@ -83,7 +82,6 @@ fn kept_rr(alloc: Global, hints: Hints, record: &Rr) -> Result<KeptRr, AllocErro
 
 /// Whether a record is kept in a list: its type is listed, and where the list has no OPT record it is none.
 fn is_kept(types: &[u16], with_opt: bool, record: &Rr) -> bool
-    requires { IsStrictlyIncreasing types.now }
     ensures { result ≡ ((with_opt || not (is_opt «record».now)) && Lists.is_listed_record types.now «record».now) }
 {
     (with_opt || record.rtype != OPT) && is_listed_type(types, record.rtype)
@@ -97,7 +95,6 @@ fn listed_records(
     with_opt: bool,
     records: &[Rr],
 ) -> Result<List<KeptRr>, AllocError>
-    requires { IsStrictlyIncreasing params.now.rr_types }
     ensures { IfOk result (λ list. list ≡
         map (Lists.kept_rr params.now.hints) (filter (Lists.is_listed_record params.now.rr_types) (if with_opt then records.now else Lists.without_opt records.now))) }
 {
@@ -118,7 +115,6 @@ fn kept_records(
     hint: u32,
     records: &List<Rr>,
 ) -> Result<List<KeptRr>, AllocError>
-    requires { IsStrictlyIncreasing params.now.rr_types }
     ensures { IfOk result (λ list. list ≡ Lists.kept_records params.now hint records.now) }
 {
     if !is_hinted(params.hints.qr, hint) {
@@ -134,7 +130,6 @@ fn kept_records_without_opt(
     hint: u32,
     records: &List<Rr>,
 ) -> Result<List<KeptRr>, AllocError>
-    requires { IsStrictlyIncreasing params.now.rr_types }
     ensures { IfOk result (λ list. list ≡ Lists.kept_records params.now hint (Lists.without_opt records.now)) }
 {
     if !is_hinted(params.hints.qr, hint) {
@@ -149,7 +144,6 @@ pub(crate) fn query_lists(
     params: &Params,
     query: &Message,
 ) -> Result<KeptLists, AllocError>
-    requires { IsStrictlyIncreasing params.now.rr_types }
     ensures { IfOk result (λ lists. lists ≡ Lists.query_lists params.now query.now) }
 {
     Ok(KeptLists {
@@ -171,7 +165,6 @@ pub(crate) fn response_lists(
     params: &Params,
     response: &Message,
 ) -> Result<KeptLists, AllocError>
-    requires { IsStrictlyIncreasing params.now.rr_types }
     ensures { IfOk result (λ lists. lists ≡ Lists.response_lists params.now response.now) }
 {
     Ok(KeptLists {
