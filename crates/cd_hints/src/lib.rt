@@ -18,6 +18,7 @@ mod record;
 mod settings;
 #[cfg(test)]
 mod tests;
+mod ticks;
 mod validity;
 
 pub use address_prefix::prefix;
@@ -28,4 +29,5 @@ pub use listing::{opcodes_of, types_of};
 pub use options::{ListOption, NumberOption};
 pub use record::Rec;
 pub use settings::{Settings, default_settings};
+pub use ticks::tick_of;
 pub use validity::valid;
