@@ -1,1 +1,6 @@
 pub mod Tallying
+mod RunLists
+mod Fronts
+mod OneCut
+mod OneRecord
+pub mod Histories
