@@ -1,7 +1,8 @@
-use Rattle.std.proofs.Common.{ℕ, ◌≡◌, ◌<◌, ◌^◌, length, map, refl, arith}
+use Rattle.std.proofs.Common.{Some, None, ℕ, ◌≡◌, ◌<◌, ◌^◌, length, map, refl, arith}
 use Rattle.std.proofs.lemmas.Bool.{false≢true}
 use Rattle.std.proofs.lemmas.List.{map-append, length-map}
 use Rattle.cd_hints.specs.Records.{record_parts}
+use Rattle.cd_record.proofs.Histories.{StandsFor_push}
 use Rattle.cd_record.proofs.Tallying.{sound_room, sound_push, sound_within}
 use Rattle.cd_record.proofs.cutter.Cutter.push.Goals as goal
 
@@ -32,3 +33,11 @@ returns-in-Ok-clause-pushes c =
       given_run = refl;
       kept = refl;
     })
+
+pub returns-then-is_within-clause-history : goal.returns-then-is_within-clause-history
+returns-then-is_within-clause-history c =
+    λ pushed runs before. StandsFor_push _ _ _ None pushed runs c.requires.alone (returns-then-is_within-clause-pushes c) before
+
+pub returns-in-Ok-clause-history : goal.returns-in-Ok-clause-history
+returns-in-Ok-clause-history c =
+    λ pushed runs before. StandsFor_push _ _ _ (Some c.into_block.result) pushed runs c.requires.alone (returns-in-Ok-clause-pushes c) before
