@@ -4,3 +4,4 @@ mod Fronts
 mod OneCut
 mod OneRecord
 pub mod Histories
+pub mod Keeping

@@ -5,3 +5,4 @@ pub mod Blocks
 pub mod Cutting
 pub mod Laws
 pub mod Tallies
+pub mod Early
