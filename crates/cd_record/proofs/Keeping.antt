@@ -1,16 +1,16 @@
 -- What is kept of a run, record by record.
-use Rattle.std.proofs.Common.{◌≡◌, ◌∙◌, ℕ, ◌+◌, ◌*◌, ◌/◌, ◌%◌, ◌<◌, ◌≤◌, min, Bool, Option, Some, None, List, [], ◌∷◌, ◌++◌, length, map, filter, take, get_or, refl, sym, ap, subst, arith}
+use Rattle.std.proofs.Common.{◌≡◌, ◌∙◌, ℕ, ◌<◌, ◌≤◌, min, Option, Some, None, List, [], ◌∷◌, length, map, get_or, sym, ap, subst, arith}
 use Rattle.std.specs.List.{All, AllByRecursion, filter_map, cons_option, reduce, fold}
 use Rattle.std.specs.Option.{IfSome, option_map}
-use Rattle.std.proofs.lemmas.List.{map-append, take_more, get_or-map, length-map}
+use Rattle.std.proofs.lemmas.List.{get_or-map, length-map}
 use Rattle.std.proofs.lemmas.Nat.{div-add-mod'}
-use Rattle.std.proofs.lemmas.List.Elements.{filter-append, All-from_recursion}
+use Rattle.std.proofs.lemmas.List.Elements.{All-from_recursion}
 use Rattle.cd_block.specs.declared.stamp.Stamp.{Stamp}
 use Rattle.cd_hints.specs.Records.{RecordParts, pair, unmatched_query, unmatched_response, malformed, discarded, record_parts, lead, IsItem, IsMalformed}
 use Rattle.cd_hints.specs.Ticks.{stamp_tick, IsAtOrBefore}
 use Rattle.cd_hints.specs.declared.record.Rec.{Rec}
 use Rattle.cd_record.specs.Early.{IsEarly, IsEarliest}
-use Rattle.cd_record.specs.Earliest.{record_tick, earliest_tick, earliest_time, stamp_of}
+use Rattle.cd_record.specs.Earliest.{record_tick, earliest_time, stamp_of}
 
 -- what holds of each record of a run holds of the one at an index
 pub record_at : (P : RecordParts → Type 0) (recs : List Rec) (i : ℕ) (rec : Rec) → i < length recs → rec ≡ get_or recs i rec →

@@ -1,15 +1,13 @@
 -- The tally of a run, record by record.
-use Rattle.std.proofs.Common.{◌≡◌, ◌∙◌, ℕ, ◌+◌, ◌<◌, ◌≤◌, ◌^◌, ◌↔◌, min, Option, Some, None, cond, List, [], ◌∷◌, ◌++◌, length, map, refl, sym, ap, arith, add-zero, append-nil}
+use Rattle.std.proofs.Common.{◌≡◌, ℕ, ◌+◌, ◌<◌, ◌≤◌, ◌^◌, ◌↔◌, min, Option, Some, None, cond, List, [], ◌∷◌, ◌++◌, length, refl, sym, ap, arith, add-zero, append-nil}
 use Rattle.std.specs.List.{reduce, filter_map, sum_by, count_by}
-use Rattle.std.proofs.lemmas.List.{map-append}
 use Rattle.std.proofs.lemmas.List.Elements.{filter_map-append, All-push, All-nil}
 use Rattle.std.proofs.lemmas.List.Sums.{fold_push, sum_by-cons, count_by-le-length}
-use Rattle.cd_hints.specs.Records.{RecordParts, pair, unmatched_query, unmatched_response, malformed, discarded, record_parts, HasKinds}
-use Rattle.cd_hints.specs.declared.record.Rec.{Rec}
+use Rattle.cd_hints.specs.Records.{RecordParts, pair, unmatched_query, unmatched_response, malformed, discarded, HasKinds}
 use Rattle.cd_record.specs.Earliest.{record_tick, earliest_tick}
 use Rattle.cd_record.specs.Runs.{Limits, IsAdmissible, is_item, is_malformed, record_weight, run_weight}
 use Rattle.cd_record.specs.Statistics.{statistics, processed_messages, is_unmatched_query, is_unmatched_response, is_discarded}
-use Rattle.cd_record.specs.Tallies.{tally_of, tally_with, stats_with, earlier, HaveRoom, HasRoom, IsWithin, IsSound}
+use Rattle.cd_record.specs.Tallies.{tally_of, tally_with, stats_with, earlier, HasRoom, IsWithin, IsSound}
 use Rattle.cd_record.specs.declared.tally.Tally.{Tally}
 
 -- the statistics of a run with one more record

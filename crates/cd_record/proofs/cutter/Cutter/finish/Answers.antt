@@ -1,7 +1,6 @@
-use Rattle.std.proofs.Common.{◌≡◌, Some, ap, refl, arith}
+use Rattle.std.proofs.Common.{◌≡◌, Some, refl, arith}
 use Rattle.std.proofs.lemmas.Grind.{common_steps}
 use Rattle.cd_record.specs.Blocks.{run_parts, run_of}
-use Rattle.cd_record.specs.Cutting.{Kept}
 use Rattle.cd_record.proofs.Histories.{AreRuns_finish}
 use Rattle.cd_record.proofs.Tallying.{sound_empty}
 use Rattle.cd_record.proofs.cutter.Cutter.finish.Goals as goal

@@ -1,4 +1,4 @@
-use Rattle.std.proofs.Common.{Some, None, ℕ, ◌≡◌, ◌<◌, ◌^◌, length, map, refl, arith}
+use Rattle.std.proofs.Common.{Some, None, ◌<◌, ◌^◌, length, map, refl, arith}
 use Rattle.std.proofs.lemmas.Bool.{false≢true}
 use Rattle.std.proofs.lemmas.List.{map-append, length-map}
 use Rattle.cd_hints.specs.Records.{record_parts}
