@@ -4,3 +4,5 @@ pub mod Earliest
 pub mod Blocks
 pub mod Cutting
 pub mod Laws
+pub mod Tallies
+pub mod Early

@@ -7,11 +7,11 @@ ghost use Rattle.cd_record.specs.Blocks.{run_parts, run_of, HaveKinds};
 ghost use Rattle.cd_record.specs.Runs.{limits_of, run_weight, IsAdmissible, AreRuns};
 
 use crate::block_records::BlockRecords;
-use cd_block::{Stamp, Stats};
+use crate::run::Run;
 use cd_hints::{Rec, Settings};
-use cd_name::List;
 use std::alloc::Global;
 use std::marker::Model;
+use std::mem;
 
 /// Why a record was not taken.
 #[derive(Debug, Drop)]
@@ -23,24 +23,24 @@ pub enum CutFault {
 /// Cuts a list of records into runs, record by record.
 #[derive(Debug, Drop)]
 pub struct Cutter {
+    alloc: Global,
     max_items: u64,
     max_weight: u64,
     ticks: u64,
-    recs: Vec<Rec>,
-    stats: Stats,
-    weight: u64,
-    // the earliest tick
-    earliest: Option<u64>,
+    run: Run,
 }
 
 impl Model for Cutter {
     ghost use Rattle.std.specs.Prelude.{map};
     ghost use Rattle.cd_hints.specs.Records.{record_parts};
     ghost use Rattle.cd_record.specs.Cutting.{Kept};
+    ghost use Rattle.cd_record.specs.Tallies.{IsSound};
 
     ghost Value = { Kept };
 
-    ghost view = { λ c. record { limits = record { items = c.max_items; weight = c.max_weight }; ticks = c.ticks; run = map record_parts c.recs.items } };
+    ghost view = { λ c. record { limits = record { items = c.max_items; weight = c.max_weight }; ticks = c.ticks; run = map record_parts c.run.recs.items } };
+
+    ghost invariant = { λ c. IsSound (record { items = c.max_items; weight = c.max_weight }) c.ticks (map record_parts c.run.recs.items) c.run.tally };
 }
 
 impl Cutter {
@@ -55,20 +55,11 @@ impl Cutter {
         ensures history { StandsFor result [] [] }
     {
         Cutter {
+            alloc,
             max_items: settings.params.max_items,
             max_weight: settings.block_bytes,
             ticks: settings.params.ticks,
-            recs: Vec::new(alloc),
-            stats: Stats {
-                processed: 0,
-                items: 0,
-                unmatched_queries: 0,
-                unmatched_responses: 0,
-                discarded: 0,
-                malformed: 0,
-            },
-            weight: 0,
-            earliest: None,
+            run: Run::new(alloc),
         }
     }
 
@@ -85,7 +76,20 @@ impl Cutter {
         ensures history { IfOk result (λ given. (pushed : List RecordParts) (runs : List (List RecordParts)) →
             StandsFor self.old pushed runs → StandsFor self.new (pushed ++ record_parts rec ∷ []) (runs ++ given_runs given)) }
     {
-        Err(CutFault::NoMemory(rec))
+        let tally = self.run.tally.with(self.ticks, &rec);
+        if tally.is_within(self.max_items, self.max_weight) {
+            if let Err(rec) = self.run.add(rec, tally) {
+                return Err(CutFault::NoMemory(rec));
+            }
+            return Ok(None);
+        }
+        match Run::of(self.alloc, self.ticks, rec) {
+            Ok(next) => {
+                let run = mem::replace(&mut self.run, next);
+                Ok(Some(run.into_block(self.ticks)))
+            }
+            Err(rec) => Err(CutFault::NoMemory(rec)),
+        }
     }
 
     /// Ends the list: gives the present run, or `None` exactly where it is empty. The cutter is then as a new one.
@@ -98,20 +102,24 @@ impl Cutter {
             StandsFor self.old pushed runs → AreRuns self.old.limits pushed (runs ++ given_runs result) }
         ensures history { StandsFor self.new [] [] }
     {
-        None
+        if self.run.recs.is_empty() {
+            return None;
+        }
+        let run = mem::replace(&mut self.run, Run::new(self.alloc));
+        Some(run.into_block(self.ticks))
     }
 
     /// The number of records in the present run.
     pub fn pending(&self) -> u64
         ensures { result ≡ length self.now.run }
     {
-        self.recs.len() as u64
+        self.run.recs.len() as u64
     }
 
     /// The weight of the present run.
     pub fn pending_weight(&self) -> u64
         ensures { result ≡ run_weight self.now.run }
     {
-        self.weight
+        self.run.tally.weight
     }
 }

@@ -10,6 +10,8 @@ mod block_making;
 mod block_records;
 mod cutter;
 mod law;
+mod run;
+mod tally;
 
 pub use block_making::kept_block;
 pub use block_records::BlockRecords;
