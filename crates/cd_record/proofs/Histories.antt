@@ -4,8 +4,8 @@ use Rattle.std.proofs.lemmas.List.{append-nil}
 use Rattle.cd_hints.specs.Records.{RecordParts}
 use Rattle.cd_record.specs.declared.block_records.BlockRecords.{BlockRecords}
 use Rattle.cd_record.specs.Runs.{Limits, IsAdmissible, AreRuns}
-use Rattle.cd_record.specs.Blocks.{RunParts, run_parts, run_of}
-use Rattle.cd_record.specs.Cutting.{Kept, StandsFor, Joins, Cuts, Pushes, with_record, as_runs, given_runs}
+use Rattle.cd_record.specs.Blocks.{RunParts, run_parts, counted_run}
+use Rattle.cd_record.specs.Cutting.{Present, StandsFor, Joins, Cuts, Pushes, with_record, as_runs, given_runs}
 use Rattle.cd_record.proofs.RunLists.{filled_push, AreRuns_none, AreRuns_first, AreRuns_joined, AreRuns_cut}
 
 -- the runs with a record that joins the present one
@@ -24,24 +24,24 @@ cut_runs limits [] r pushed runs alone full before = absurd (full alone)
 cut_runs limits (first ∷ run) r pushed runs alone full before = AreRuns_cut limits pushed runs (first ∷ run) r alone full before
 
 -- a cutter with no record
-pub StandsFor_fresh : (kept : Kept) → kept.run ≡ [] → StandsFor kept [] []
-StandsFor_fresh kept empty = record {
-  runs = subst (λ (run : List RecordParts). AreRuns kept.limits [] (as_runs run)) (sym empty) (AreRuns_none kept.limits);
+pub StandsFor_fresh : (present : Present) → present.run ≡ [] → StandsFor present [] []
+StandsFor_fresh present empty = record {
+  runs = subst (λ (run : List RecordParts). AreRuns present.limits [] (as_runs run)) (sym empty) (AreRuns_none present.limits);
   fresh = λ e. refl;
 }
 
 -- a record joins the present run
-pub StandsFor_joined : (old new : Kept) (r : RecordParts) (pushed : List RecordParts) (runs : List (List RecordParts)) → Joins old r new → StandsFor old pushed runs →
+pub StandsFor_joined : (old new : Present) (r : RecordParts) (pushed : List RecordParts) (runs : List (List RecordParts)) → Joins old r new → StandsFor old pushed runs →
     StandsFor new (pushed ++ r ∷ []) (runs ++ [])
 StandsFor_joined old new r pushed runs joins before =
     let after : StandsFor (record old { run = with_record old r }) (pushed ++ r ∷ []) runs = record {
       runs = joined_runs old.limits old.run r pushed runs joins.admissible before.fresh before.runs;
       fresh = λ e. absurd (filled_push old.run r e);
     } in
-    rw (joins.kept, append-nil runs) after
+    rw (joins.present, append-nil runs) after
 
 -- a record begins the next run
-pub StandsFor_cut : (old new : Kept) (r : RecordParts) (given : RunParts) (pushed : List RecordParts) (runs : List (List RecordParts)) → IsAdmissible old.limits (r ∷ []) →
+pub StandsFor_cut : (old new : Present) (r : RecordParts) (given : RunParts) (pushed : List RecordParts) (runs : List (List RecordParts)) → IsAdmissible old.limits (r ∷ []) →
     Cuts old r given new → StandsFor old pushed runs → StandsFor new (pushed ++ r ∷ []) (runs ++ given.records ∷ [])
 StandsFor_cut old new r given pushed runs alone cuts before =
     let after : StandsFor (record old { run = r ∷ [] }) (pushed ++ r ∷ []) (runs ++ old.run ∷ []) = record {
@@ -49,10 +49,10 @@ StandsFor_cut old new r given pushed runs alone cuts before =
       fresh = λ e. absurd (filled_push [] r e);
     } in
     let same : given.records ≡ old.run = ap (λ (run : RunParts). run.records) cuts.given_run in
-    rw (cuts.kept, same) after
+    rw (cuts.present, same) after
 
 -- one push
-pub StandsFor_push : (old new : Kept) (r : RecordParts) (given : Option BlockRecords) (pushed : List RecordParts) (runs : List (List RecordParts)) →
+pub StandsFor_push : (old new : Present) (r : RecordParts) (given : Option BlockRecords) (pushed : List RecordParts) (runs : List (List RecordParts)) →
     IsAdmissible old.limits (r ∷ []) → Pushes old r given new → StandsFor old pushed runs → StandsFor new (pushed ++ r ∷ []) (runs ++ given_runs given)
 StandsFor_push old new r None pushed runs alone joins before = StandsFor_joined old new r pushed runs joins before
 StandsFor_push old new r (Some b) pushed runs alone cuts before = StandsFor_cut old new r (run_parts b) pushed runs alone cuts before
@@ -65,8 +65,8 @@ as_runs_given (r ∷ run) None none same = absurd (let e : r ∷ run ≡ [] = no
 as_runs_given (r ∷ run) (Some b) none same = ap (λ (one : List RecordParts). one ∷ []) (sym same)
 
 -- with the present run the runs given are those of the records pushed
-pub AreRuns_finish : (kept : Kept) (given : Option BlockRecords) (pushed : List RecordParts) (runs : List (List RecordParts)) → IsNone given ↔ (kept.run ≡ []) →
-    IfSome given (λ b. run_parts b ≡ run_of kept.ticks kept.run) → StandsFor kept pushed runs → AreRuns kept.limits pushed (runs ++ given_runs given)
-AreRuns_finish kept None pushed runs none same before = rw (← as_runs_given kept.run None none tt) before.runs
-AreRuns_finish kept (Some b) pushed runs none same before =
-    rw (← as_runs_given kept.run (Some b) none (ap (λ (run : RunParts). run.records) same)) before.runs
+pub AreRuns_finish : (present : Present) (given : Option BlockRecords) (pushed : List RecordParts) (runs : List (List RecordParts)) → IsNone given ↔ (present.run ≡ []) →
+    IfSome given (λ b. run_parts b ≡ counted_run present.ticks present.run) → StandsFor present pushed runs → AreRuns present.limits pushed (runs ++ given_runs given)
+AreRuns_finish present None pushed runs none same before = rw (← as_runs_given present.run None none tt) before.runs
+AreRuns_finish present (Some b) pushed runs none same before =
+    rw (← as_runs_given present.run (Some b) none (ap (λ (run : RunParts). run.records) same)) before.runs

@@ -6,10 +6,10 @@ use Rattle.std.proofs.lemmas.List.{get_or-map, length-map}
 use Rattle.std.proofs.lemmas.Nat.{div-add-mod'}
 use Rattle.std.proofs.lemmas.List.Elements.{All-from_recursion}
 use Rattle.cd_block.specs.declared.stamp.Stamp.{Stamp}
-use Rattle.cd_hints.specs.Records.{RecordParts, pair, unmatched_query, unmatched_response, malformed, discarded, record_parts, lead, IsItem, IsMalformed}
+use Rattle.cd_hints.specs.Records.{RecordParts, pair, unmatched_query, unmatched_response, malformed, discarded, record_parts, main_event, IsItem, IsMalformed}
 use Rattle.cd_hints.specs.Ticks.{stamp_tick, IsAtOrBefore}
 use Rattle.cd_hints.specs.declared.record.Rec.{Rec}
-use Rattle.cd_record.specs.Early.{IsEarly, IsEarliest}
+use Rattle.cd_record.specs.Earliest.{IsEarly, IsEarliest}
 use Rattle.cd_record.specs.Earliest.{record_tick, earliest_time, stamp_of}
 
 -- what holds of each record of a run holds of the one at an index
@@ -21,20 +21,20 @@ record_at P recs i rec within is all =
     subst P at (all i (record_parts rec) short)
 
 -- a stamp that is early for an item is at or before the item's time
-pub early_item : (ticks : ℕ) (s : Stamp) (r : RecordParts) → IsItem r → IsEarly ticks s r → IsAtOrBefore ticks s (lead r).time
+pub early_item : (ticks : ℕ) (s : Stamp) (r : RecordParts) → IsItem r → IsEarly ticks s r → IsAtOrBefore ticks s (main_event r).time
 early_item ticks s (pair query response) item early = early
 early_item ticks s (unmatched_query e) item early = early
 early_item ticks s (unmatched_response e) item early = early
-early_item ticks s (malformed e) item early = absurd item
-early_item ticks s (discarded e) item early = absurd item
+early_item ticks s (malformed e) item early = absurd (cc item)
+early_item ticks s (discarded e) item early = absurd (cc item)
 
 -- a stamp that is early for a malformed record is at or before its time
-pub early_malformed : (ticks : ℕ) (s : Stamp) (r : RecordParts) → IsMalformed r → IsEarly ticks s r → IsAtOrBefore ticks s (lead r).time
-early_malformed ticks s (pair query response) is early = absurd is
-early_malformed ticks s (unmatched_query e) is early = absurd is
-early_malformed ticks s (unmatched_response e) is early = absurd is
+pub early_malformed : (ticks : ℕ) (s : Stamp) (r : RecordParts) → IsMalformed r → IsEarly ticks s r → IsAtOrBefore ticks s (main_event r).time
+early_malformed ticks s (pair query response) is early = absurd (cc is)
+early_malformed ticks s (unmatched_query e) is early = absurd (cc is)
+early_malformed ticks s (unmatched_response e) is early = absurd (cc is)
 early_malformed ticks s (malformed e) is early = early
-early_malformed ticks s (discarded e) is early = absurd is
+early_malformed ticks s (discarded e) is early = absurd (cc is)
 
 -- the least of some numbers is below each of them
 least_below : (a : ℕ) (xs : List ℕ) → (fold min a xs ≤ a) × AllByRecursion (λ x. fold min a xs ≤ x) xs

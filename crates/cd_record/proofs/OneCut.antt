@@ -4,8 +4,8 @@ use Rattle.std.specs.List.{All}
 use Rattle.std.proofs.lemmas.List.{append-nil}
 use Rattle.std.proofs.lemmas.List.Elements.{All-head, All-tail}
 use Rattle.cd_hints.specs.Records.{RecordParts}
-use Rattle.cd_record.specs.Blocks.{run_of}
-use Rattle.cd_record.specs.Cutting.{Kept, StandsFor, as_runs}
+use Rattle.cd_record.specs.Blocks.{counted_run}
+use Rattle.cd_record.specs.Cutting.{Present, StandsFor, as_runs}
 use Rattle.cd_record.specs.Laws.{IsAdmissibleAlone, RunsAreOne}
 use Rattle.cd_record.specs.Runs.{Limits, IsAdmissible, AreRuns}
 use Rattle.cd_record.proofs.Fronts.{GoesOn, fronts_of_one, same, first_shorter, second_shorter, IsAdmissible_front, admissible_or_not}
@@ -13,30 +13,30 @@ use Rattle.cd_record.proofs.Histories.{StandsFor_fresh, StandsFor_joined, Stands
 use Rattle.cd_record.proofs.RunLists.{records_of}
 
 -- what a cutter keeps that counts no ticks
-abbrev kept_with : Limits → List RecordParts → Kept
-kept_with limits run = record { limits = limits; ticks = 0; run = run }
+abbrev present_with : Limits → List RecordParts → Present
+present_with limits run = record { limits = limits; ticks = 0; run = run }
 
 -- the runs of some records, with the present one behind the others
 record Cut (limits : Limits) (records : List RecordParts) : Type 0 where
   runs : List (List RecordParts)
   run : List RecordParts
-  stands : StandsFor (kept_with limits run) records runs
+  stands : StandsFor (present_with limits run) records runs
 
 -- one more record
 cut_more : (limits : Limits) (records : List RecordParts) (r : RecordParts) → IsAdmissible limits (r ∷ []) → Cut limits records → Cut limits (records ++ r ∷ [])
 cut_more limits records r alone before =
-    let old : Kept = kept_with limits before.run in
+    let old : Present = present_with limits before.run in
     elim (admissible_or_not limits (before.run ++ r ∷ [])) [
       | inl fits ↦ record {
         runs = before.runs ++ [];
         run = before.run ++ r ∷ [];
-        stands = StandsFor_joined old (kept_with limits (before.run ++ r ∷ [])) r records before.runs (record { admissible = fits; kept = refl }) before.stands;
+        stands = StandsFor_joined old (present_with limits (before.run ++ r ∷ [])) r records before.runs (record { admissible = fits; present = refl }) before.stands;
       }
       | inr full ↦ record {
         runs = before.runs ++ before.run ∷ [];
         run = r ∷ [];
-        stands = StandsFor_cut old (kept_with limits (r ∷ [])) r (run_of 0 before.run) records before.runs alone
-            (record { not_admissible = full; given_run = refl; kept = refl }) before.stands;
+        stands = StandsFor_cut old (present_with limits (r ∷ [])) r (counted_run 0 before.run) records before.runs alone
+            (record { not_admissible = full; given_run = refl; present = refl }) before.stands;
       }
     ]
 
@@ -97,7 +97,7 @@ one_cut limits records (run ∷ runs) (other ∷ others) all also =
 -- the runs are those of a cutter that takes the records one by one, and there are no others
 pub cut_in_one_way : RunsAreOne
 cut_in_one_way limits records alone =
-    let cut : Cut limits records = cut_rest limits records [] alone (record { runs = []; run = []; stands = StandsFor_fresh (kept_with limits []) refl }) in
+    let cut : Cut limits records = cut_rest limits records [] alone (record { runs = []; run = []; stands = StandsFor_fresh (present_with limits []) refl }) in
     record {
       runs = cut.runs ++ as_runs cut.run;
       holds = cut.stands.runs;

@@ -5,7 +5,7 @@ use Rattle.std.proofs.lemmas.List.{append-nil}
 use Rattle.std.proofs.lemmas.List.Concat.{flat_map-append}
 use Rattle.std.proofs.lemmas.List.Elements.{All-nil, All-cons, All-head, All-tail, All-push}
 use Rattle.cd_hints.specs.Records.{RecordParts}
-use Rattle.cd_record.specs.Runs.{Limits, IsAdmissible, AreLong, AreRuns}
+use Rattle.cd_record.specs.Runs.{Limits, IsAdmissible, AreLongest, AreRuns}
 
 -- the records of some runs
 abbrev pub records_of : List (List RecordParts) → List RecordParts
@@ -32,7 +32,7 @@ take_first (r ∷ run) more filled = refl
 
 -- runs are long whatever follows the first record of the last
 AreLong_same_start : (limits : Limits) (runs : List (List RecordParts)) (run other : List RecordParts) → take 1 run ≡ take 1 other →
-    AreLong limits (runs ++ run ∷ []) → AreLong limits (runs ++ other ∷ [])
+    AreLongest limits (runs ++ run ∷ []) → AreLongest limits (runs ++ other ∷ [])
 AreLong_same_start limits [] run other same long = tt
 AreLong_same_start limits (first ∷ []) run other same long =
     (λ h. long.0 (subst (λ (start : List RecordParts). IsAdmissible limits (first ++ start)) (sym same) h), tt)
@@ -40,7 +40,7 @@ AreLong_same_start limits (first ∷ second ∷ runs) run other same long = (lon
 
 -- runs with one more are long, where the last could not stand in one block with its first record
 AreLong_push : (limits : Limits) (runs : List (List RecordParts)) (run next : List RecordParts) → ¬ (IsAdmissible limits (run ++ take 1 next)) →
-    AreLong limits (runs ++ run ∷ []) → AreLong limits ((runs ++ run ∷ []) ++ next ∷ [])
+    AreLongest limits (runs ++ run ∷ []) → AreLongest limits ((runs ++ run ∷ []) ++ next ∷ [])
 AreLong_push limits [] run next full long = (full, tt)
 AreLong_push limits (first ∷ []) run next full long = (long.0, (full, tt))
 AreLong_push limits (first ∷ second ∷ runs) run next full long = (long.0, AreLong_push limits (second ∷ runs) run next full long.1)

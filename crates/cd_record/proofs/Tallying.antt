@@ -3,9 +3,9 @@ use Rattle.std.proofs.Common.{◌≡◌, ℕ, ◌+◌, ◌<◌, ◌≤◌, ◌^�
 use Rattle.std.specs.List.{reduce, filter_map, sum_by, count_by}
 use Rattle.std.proofs.lemmas.List.Elements.{filter_map-append, All-push, All-nil}
 use Rattle.std.proofs.lemmas.List.Sums.{fold_push, sum_by-cons, count_by-le-length}
-use Rattle.cd_hints.specs.Records.{RecordParts, pair, unmatched_query, unmatched_response, malformed, discarded, HasKinds}
+use Rattle.cd_hints.specs.Records.{RecordParts, pair, unmatched_query, unmatched_response, malformed, discarded, is_item, is_malformed, HasKinds}
 use Rattle.cd_record.specs.Earliest.{record_tick, earliest_tick}
-use Rattle.cd_record.specs.Runs.{Limits, IsAdmissible, is_item, is_malformed, record_weight, run_weight}
+use Rattle.cd_record.specs.Runs.{Limits, IsAdmissible, record_weight, run_weight}
 use Rattle.cd_record.specs.Statistics.{statistics, processed_messages, is_unmatched_query, is_unmatched_response, is_discarded}
 use Rattle.cd_record.specs.Tallies.{tally_of, tally_with, stats_with, earlier, HasRoom, IsWithin, IsSound}
 use Rattle.cd_record.specs.declared.tally.Tally.{Tally}

@@ -26,13 +26,13 @@ pub record RunParts : Type 0 where
 abbrev pub run_parts : BlockRecords → RunParts
 run_parts b = record { records = map record_parts b.recs; stats = b.stats; earliest = b.earliest }
 
--- a run with the statistics and the earliest time that are its own
-abbrev pub run_of : ℕ → List RecordParts → RunParts
-run_of ticks run = record { records = run; stats = statistics run; earliest = earliest_time ticks run }
+-- a run with its own statistics and its own earliest time
+abbrev pub counted_run : ℕ → List RecordParts → RunParts
+counted_run ticks run = record { records = run; stats = statistics run; earliest = earliest_time ticks run }
 
 -- the statistics and the earliest time are those of the records
-abbrev pub IsRun : ℕ → RunParts → Type 0
-IsRun ticks run = run ≡ run_of ticks run.records
+abbrev pub IsCounted : ℕ → RunParts → Type 0
+IsCounted ticks run = run ≡ counted_run ticks run.records
 
 -- each event has the kind that its record names
 abbrev pub HaveKinds : List RecordParts → Type 0
@@ -46,12 +46,12 @@ kept_malformed_items p run earliest = if is_hinted p.hints.other hint.OTHER_MALF
 abbrev pub kept_items : Params → List RecordParts → Stamp → List KeptItem
 kept_items p run earliest = map (kept_item p earliest) (filter is_item run)
 
--- The block of a run. Where there is no earliest time, no record has a time, and none is kept.
-abbrev pub kept_block : Params → RunParts → KeptBlock
+-- The block of a run. Where a run has no earliest time, none of its records is kept.
+abbrev pub kept_block : Params → List RecordParts → KeptBlock
 kept_block p run = record {
-  earliest = run.earliest;
+  earliest = earliest_time p.ticks run;
   params = 0;
-  stats = Some run.stats;
-  items = option_map_or (kept_items p run.records) run.earliest [];
-  malformed = option_map_or (kept_malformed_items p run.records) run.earliest [];
+  stats = Some (statistics run);
+  items = option_map_or (kept_items p run) (earliest_time p.ticks run) [];
+  malformed = option_map_or (kept_malformed_items p run) (earliest_time p.ticks run) [];
 }

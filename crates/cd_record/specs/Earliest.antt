@@ -1,12 +1,12 @@
 -- The earliest time of a run (RFC 8618 7.3.2.1).
-use Rattle.std.specs.Prelude.{ℕ, ◌/◌, ◌%◌, min, List, Option, Some, None}
-use Rattle.std.specs.List.{filter_map, reduce}
+use Rattle.std.specs.Prelude.{ℕ, ◌/◌, ◌%◌, ◌≤◌, min, List, Option, Some, None, IfSome}
+use Rattle.std.specs.List.{All, filter_map, reduce}
 use Rattle.std.specs.Option.{option_map}
 use Rattle.cd_block.specs.declared.stamp.Stamp.{Stamp}
 use Rattle.cd_hints.specs.Records.{RecordParts, pair, unmatched_query, unmatched_response, malformed, discarded}
-use Rattle.cd_hints.specs.Ticks.{tick_of}
+use Rattle.cd_hints.specs.Ticks.{tick_of, stamp_tick}
 
--- The time of a record, in nanoseconds: a pair has that of its query, and what is discarded has none.
+-- The time of a record, in nanoseconds: that of the query of a pair. The time of a discarded message does not count.
 abbrev pub time_of : RecordParts → Option ℕ
 time_of (pair query response) = Some query.time
 time_of (unmatched_query e) = Some e.time
@@ -29,3 +29,11 @@ stamp_of ticks tick = record { seconds = tick / ticks; ticks = tick % ticks }
 -- the earliest time of a run
 abbrev pub earliest_time : ℕ → List RecordParts → Option Stamp
 earliest_time ticks run = option_map (stamp_of ticks) (earliest_tick ticks run)
+
+-- the stamp is at or before the record's time, where it has one
+abbrev pub IsEarly : ℕ → Stamp → RecordParts → Type 0
+IsEarly ticks s r = IfSome (record_tick ticks r) (λ tick. stamp_tick ticks s ≤ tick)
+
+-- the stamp is at or before the time of each record
+abbrev pub IsEarliest : ℕ → Stamp → List RecordParts → Type 0
+IsEarliest ticks s run = All (IsEarly ticks s) run

@@ -5,4 +5,3 @@ pub mod Blocks
 pub mod Cutting
 pub mod Laws
 pub mod Tallies
-pub mod Early

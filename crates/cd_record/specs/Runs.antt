@@ -34,10 +34,10 @@ pub record IsAdmissible (limits : Limits) (run : List RecordParts) : Type 0 wher
   pub light : run_weight run ≤ limits.weight
 
 -- each run is as long as it can be: with the first record of the next run it could not stand in one block
-abbrev pub AreLong : Limits → List (List RecordParts) → Type 0
-AreLong limits [] = Unit {0}
-AreLong limits (run ∷ []) = Unit {0}
-AreLong limits (run ∷ next ∷ runs) = ¬ (IsAdmissible limits (run ++ take 1 next)) × AreLong limits (next ∷ runs)
+abbrev pub AreLongest : Limits → List (List RecordParts) → Type 0
+AreLongest limits [] = Unit {0}
+AreLongest limits (run ∷ []) = Unit {0}
+AreLongest limits (run ∷ next ∷ runs) = ¬ (IsAdmissible limits (run ++ take 1 next)) × AreLongest limits (next ∷ runs)
 
 -- these are the runs of some records
 pub record AreRuns (limits : Limits) (records : List RecordParts) (runs : List (List RecordParts)) : Type 0 where
@@ -45,4 +45,4 @@ pub record AreRuns (limits : Limits) (records : List RecordParts) (runs : List (
   pub whole : records ≡ flat_map (λ run. run) runs
   pub not_empty : All (λ run. run ≢ []) runs
   pub admissible : All (IsAdmissible limits) runs
-  pub long : AreLong limits runs
+  pub long : AreLongest limits runs

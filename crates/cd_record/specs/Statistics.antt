@@ -4,7 +4,7 @@ use Rattle.std.specs.List.{sum_by, count_by}
 use Rattle.cd_block.specs.declared.stats.Stats.{Stats}
 use Rattle.cd_hints.specs.Records.{RecordParts, pair, unmatched_query, unmatched_response, malformed, discarded, is_item, is_malformed}
 
--- the well-formed messages of a record: two of a pair, and one that is discarded too
+-- the well-formed messages of a record: two of a pair, one of a query, a response or a discarded message, none of a malformed one
 abbrev pub processed_messages : RecordParts → ℕ
 processed_messages (pair query response) = 2
 processed_messages (unmatched_query e) = 1

@@ -3,9 +3,9 @@
 ghost use Rattle.std.specs.Prelude.{◌≡◌, map, IfOk, IsTrue};
 ghost use Rattle.cd_hints.specs.Records.{record_parts};
 ghost use Rattle.cd_hints.specs.Validity.{IsValid};
-ghost use Rattle.cd_record.specs.Blocks.{run_parts, IsRun, HaveKinds};
+ghost use Rattle.cd_record.specs.Blocks.{run_parts, IsCounted, HaveKinds};
 ghost use Rattle.cd_record.specs.Blocks;
-ghost use Rattle.cd_record.specs.Early.{IsEarliest};
+ghost use Rattle.cd_record.specs.Earliest.{IsEarliest};
 
 use crate::block_records::BlockRecords;
 use cd_block::hints::OTHER_MALFORMED;
@@ -75,8 +75,8 @@ pub fn kept_block(
 ) -> Result<KeptBlock, AllocError>
     requires valid { IsValid settings.now }
     requires kinds { HaveKinds (run_parts records.now).records }
-    requires counted { IsRun settings.now.params.ticks (run_parts records.now) }
-    ensures { IfOk result (λ block. block ≡ Blocks.kept_block settings.now.params (run_parts records.now)) }
+    requires counted { IsCounted settings.now.params.ticks (run_parts records.now) }
+    ensures { IfOk result (λ block. block ≡ Blocks.kept_block settings.now.params (run_parts records.now).records) }
 {
     let recs = records.recs.as_slice();
     let (items, malformed) = match records.earliest {

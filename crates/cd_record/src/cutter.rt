@@ -3,7 +3,7 @@
 ghost use Rattle.std.specs.Prelude.{◌≡◌, ◌↔◌, List, [], ◌∷◌, ◌++◌, length, IfOk, IfErr, OnErr, IfSome, IsNone};
 ghost use Rattle.cd_hints.specs.Records.{RecordParts, record_parts, HasKinds};
 ghost use Rattle.cd_hints.specs.Validity.{IsValid};
-ghost use Rattle.cd_record.specs.Blocks.{run_parts, run_of, HaveKinds};
+ghost use Rattle.cd_record.specs.Blocks.{run_parts, counted_run, HaveKinds};
 ghost use Rattle.cd_record.specs.Runs.{limits_of, run_weight, IsAdmissible, AreRuns};
 
 use crate::block_records::BlockRecords;
@@ -33,10 +33,10 @@ pub struct Cutter {
 impl Model for Cutter {
     ghost use Rattle.std.specs.Prelude.{map};
     ghost use Rattle.cd_hints.specs.Records.{record_parts};
-    ghost use Rattle.cd_record.specs.Cutting.{Kept};
+    ghost use Rattle.cd_record.specs.Cutting.{Present};
     ghost use Rattle.cd_record.specs.Tallies.{IsSound};
 
-    ghost Value = { Kept };
+    ghost Value = { Present };
 
     ghost view = { λ c. record { limits = record { items = c.max_items; weight = c.max_weight }; ticks = c.ticks; run = map record_parts c.run.recs.items } };
 
@@ -44,7 +44,7 @@ impl Model for Cutter {
 }
 
 impl Cutter {
-    ghost use Rattle.cd_record.specs.Cutting.{StandsFor, Pushes, given_runs, handed_back};
+    ghost use Rattle.cd_record.specs.Cutting.{StandsFor, Pushes, given_runs};
 
     /// A cutter with no record. The settings must be valid; of them it keeps the limits of a block and the ticks of a second.
     pub fn new(alloc: Global, settings: &Settings) -> Cutter
@@ -72,7 +72,7 @@ impl Cutter {
         ensures pushes { IfOk result (λ given. Pushes self.old (record_parts rec) given self.new) }
         ensures kinds { IfOk result (λ given. IfSome given (λ b. HaveKinds (run_parts b).records)) }
         ensures unchanged { OnErr result (self.new ≡ self.old) }
-        ensures handed_back { IfErr result (λ fault. handed_back fault ≡ record_parts rec) }
+        ensures handed_back { IfErr result (λ fault. fault ≡ CutFault.NoMemory rec) }
         ensures history { IfOk result (λ given. (pushed : List RecordParts) (runs : List (List RecordParts)) →
             StandsFor self.old pushed runs → StandsFor self.new (pushed ++ record_parts rec ∷ []) (runs ++ given_runs given)) }
     {
@@ -95,7 +95,7 @@ impl Cutter {
     /// Ends the list: gives the present run, or `None` exactly where it is empty. The cutter is then as a new one.
     pub fn finish(&mut self) -> Option<BlockRecords>
         ensures none { IsNone result ↔ (self.old.run ≡ []) }
-        ensures given { IfSome result (λ b. run_parts b ≡ run_of self.old.ticks self.old.run) }
+        ensures given { IfSome result (λ b. run_parts b ≡ counted_run self.old.ticks self.old.run) }
         ensures kinds { IfSome result (λ b. HaveKinds (run_parts b).records) }
         ensures empty { self.new ≡ record self.old { run = [] } }
         ensures whole { (pushed : List RecordParts) (runs : List (List RecordParts)) →

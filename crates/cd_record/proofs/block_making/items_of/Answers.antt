@@ -1,6 +1,6 @@
 use Rattle.std.proofs.Common.{rules}
 use Rattle.cd_hints.specs.Records.{record_parts, HasKinds, IsItem}
-use Rattle.cd_record.specs.Early.{IsEarly}
+use Rattle.cd_record.specs.Earliest.{IsEarly}
 use Rattle.cd_record.proofs.Keeping.{record_at, early_item}
 use Rattle.cd_record.proofs.block_making.items_of.Goals as goal
 

@@ -23,7 +23,7 @@ returns-then-is_within-clause-pushes c =
     let within = rw c.with-tally.ensures at (c.if-is_within.ensures.0 refl) in
     rw (← c.self.view_is, c.in_default.ensures.ok.0, map-append) (record {
       admissible = (sound_push _ _ _ _ _ c.self.invariant c.requires.kinds within).admissible;
-      kept = refl;
+      present = refl;
     })
 
 pub returns-in-Ok-clause-pushes : goal.returns-in-Ok-clause-pushes
@@ -31,7 +31,7 @@ returns-in-Ok-clause-pushes c =
     rw (← c.self.view_is, c.replace-run.ensures.after, c.in-Ok.ensures.recs, c.into_block.ensures, c.replace-run.ensures.value, c.self.invariant.counted) (record {
       not_admissible = λ h. false≢true (c.if-is_within.ensures.1 (rw c.with-tally.ensures ((sound_within _ _ _ _ _ c.self.invariant).0 h)));
       given_run = refl;
-      kept = refl;
+      present = refl;
     })
 
 pub returns-then-is_within-clause-history : goal.returns-then-is_within-clause-history
