@@ -1,6 +1,6 @@
 //! The block of a run.
 
-ghost use Rattle.std.specs.Prelude.{◌≡◌, map, IfOk, IsTrue};
+ghost use Rattle.std.specs.Prelude.{◌≡◌, map, IfOk};
 ghost use Rattle.cd_hints.specs.Records.{record_parts};
 ghost use Rattle.cd_hints.specs.Validity.{IsValid};
 ghost use Rattle.cd_record.specs.Blocks.{run_parts, IsCounted, HaveKinds};

@@ -12,6 +12,8 @@ mod cutter;
 mod law;
 mod run;
 mod tally;
+#[cfg(test)]
+mod tests;
 
 pub use block_making::kept_block;
 pub use block_records::BlockRecords;

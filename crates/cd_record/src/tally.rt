@@ -6,7 +6,6 @@ ghost use Rattle.cd_hints.specs.Records.{record_parts};
 ghost use Rattle.cd_hints.specs.declared.options.NumberOption.TheVariants.{Ticks};
 ghost use Rattle.cd_record.specs.Earliest;
 ghost use Rattle.cd_record.specs.Runs.{record_weight};
-ghost use Rattle.cd_record.specs.Statistics.{statistics};
 ghost use Rattle.cd_record.specs.Tallies;
 
 use cd_block::Stats;
