@@ -3,7 +3,7 @@ ghost use Rattle.std.specs.List.{All};
 ghost use Rattle.cd_hints.specs.Records.{record_parts, HasKinds};
 ghost use Rattle.cd_hints.specs.Validity.{IsValid};
 ghost use Rattle.cd_ident.specs.Keys.{parts_of};
-ghost use Rattle.cd_record.specs.Laws.{IsOfDatagram, events_of};
+ghost use Rattle.cd_record.specs.Laws.{IsLight, events_of};
 ghost use Rattle.cd_record.specs.Runs.{limits_of};
 
 use crate::{BlockRecords, Cutter, kept_block, one_record_is_admissible};
@@ -38,7 +38,7 @@ const TIME: u64 = 1_700_000_000_000_123_456;
 
 /// The event of a payload of at most 65,535 bytes, so many seconds after TIME. Only opcode 0 is listed.
 fn event(alloc: Global, seconds: u16, payload: &[u8]) -> Result<Event, AllocError>
-    ensures { IfOk result (λ event. IsOfDatagram (parts_of event)) }
+    ensures { IfOk result (λ event. IsLight (parts_of event)) }
 {
     let dgram = Dgram {
         time: TIME + u64::from(seconds) * 1_000_000_000,
@@ -58,9 +58,9 @@ fn event(alloc: Global, seconds: u16, payload: &[u8]) -> Result<Event, AllocErro
 
 /// The record of an event that stands alone.
 fn alone(event: Event) -> Rec
-    requires { IsOfDatagram (parts_of event) }
+    requires { IsLight (parts_of event) }
     ensures kinds { HasKinds (record_parts result) }
-    ensures datagrams { All IsOfDatagram (events_of (record_parts result)) }
+    ensures light { All IsLight (events_of (record_parts result)) }
 {
     match event.kind {
         Kind::Query => Rec::Query(event),
@@ -70,7 +70,7 @@ fn alone(event: Event) -> Rec
     }
 }
 
-/// Pushes a record of datagrams into a cutter that was made with these settings.
+/// Pushes a record of light events into a cutter that was made with these settings.
 fn push(
     cutter: &mut Cutter,
     settings: &Settings,
@@ -79,7 +79,7 @@ fn push(
     requires valid { IsValid settings.now }
     requires cutter { cutter.old ≡ record cutter.old { limits = limits_of settings.now; ticks = settings.now.params.ticks } }
     requires kinds { HasKinds (record_parts rec) }
-    requires datagrams { All IsOfDatagram (events_of (record_parts rec)) }
+    requires light { All IsLight (events_of (record_parts rec)) }
     ensures { cutter.new ≡ record cutter.new { limits = limits_of settings.now; ticks = settings.now.params.ticks } }
 {
     one_record_is_admissible();
@@ -315,10 +315,10 @@ fn a_malformed_record_counts_where_it_is_not_kept(rt: HostRuntime) -> Result<(),
 
 /// The record of a query and its response.
 fn pair(rt: &impl Abort, query: Event, response: Event) -> Rec
-    requires query { IsOfDatagram (parts_of query) }
-    requires response { IsOfDatagram (parts_of response) }
+    requires query { IsLight (parts_of query) }
+    requires response { IsLight (parts_of response) }
     ensures kinds { HasKinds (record_parts result) }
-    ensures datagrams { All IsOfDatagram (events_of (record_parts result)) }
+    ensures light { All IsLight (events_of (record_parts result)) }
 {
     match (query.kind, response.kind) {
         (Kind::Query, Kind::Response) => Rec::Pair { query, response },
