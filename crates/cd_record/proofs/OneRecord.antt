@@ -1,5 +1,5 @@
 -- A record of light events may stand in a block alone.
-use Rattle.std.proofs.Common.{ℕ, ◌≤◌, [], ◌∷◌, arith}
+use Rattle.std.proofs.Common.{◌≤◌, [], ◌∷◌, arith}
 use Rattle.std.specs.List.{All}
 use Rattle.std.proofs.lemmas.List.Elements.{All-head, All-tail}
 use Rattle.std.proofs.lemmas.List.Sums.{count_by-le-length}
