@@ -90,7 +90,8 @@ fn kept_client_address(
     client: &Addr,
 ) -> Result<Option<Blob>, AllocError>
     requires { AreValidParams params.now }
-    ensures { IfOk result (λ address. address ≡ Hinted.kept params.now.hints.qr QR_CLIENT_ADDRESS (Some (Addresses.client_address params.now.prefixes client.now))) }
+    ensures { IfOk result (λ address. address ≡
+        Hinted.kept params.now.hints.qr QR_CLIENT_ADDRESS (Some (Addresses.client_address params.now.prefixes client.now))) }
 {
     if !is_hinted(params.hints.qr, QR_CLIENT_ADDRESS) {
         return Ok(None);
@@ -101,7 +102,8 @@ fn kept_client_address(
 
 // What is kept of the name of the lead question.
 fn kept_query_name(alloc: Global, params: &Params, rec: &Rec) -> Result<Option<Name>, AllocError>
-    ensures { IfOk result (λ name. name ≡ Hinted.kept params.now.hints.qr QR_QUERY_NAME (option_map (λ q. q.name) (Items.lead_question (record_parts rec.now)))) }
+    ensures { IfOk result (λ name. name ≡
+        Hinted.kept params.now.hints.qr QR_QUERY_NAME (option_map (λ q. q.name) (Items.lead_question (record_parts rec.now)))) }
 {
     if !is_hinted(params.hints.qr, QR_QUERY_NAME) {
         return Ok(None);
@@ -122,7 +124,8 @@ fn hinted_signature(
     rec: &Rec,
 ) -> Result<Option<KeptSig>, AllocError>
     requires { AreValidParams params.now }
-    ensures { IfOk result (λ signature. signature ≡ Hinted.kept params.now.hints.qr QR_SIGNATURE (Some (Items.kept_signature params.now (record_parts rec.now)))) }
+    ensures { IfOk result (λ signature. signature ≡
+        Hinted.kept params.now.hints.qr QR_SIGNATURE (Some (Items.kept_signature params.now (record_parts rec.now)))) }
 {
     if !is_hinted(params.hints.qr, QR_SIGNATURE) {
         return Ok(None);
@@ -134,7 +137,8 @@ fn hinted_signature(
 // The lists of the query, where there is one.
 fn query_extended(alloc: Global, params: &Params, rec: &Rec) -> Result<KeptLists, AllocError>
     requires { AreValidParams params.now }
-    ensures { IfOk result (λ lists. lists ≡ option_map_or (Lists.query_lists params.now) (query_message (record_parts rec.now)) Lists.no_lists) }
+    ensures { IfOk result (λ lists. lists ≡
+        option_map_or (Lists.query_lists params.now) (query_message (record_parts rec.now)) Lists.no_lists) }
 {
     match rec.query_message() {
         Some(query) => query_lists(alloc, params, query),
@@ -145,7 +149,8 @@ fn query_extended(alloc: Global, params: &Params, rec: &Rec) -> Result<KeptLists
 // The lists of the response, where there is one.
 fn response_extended(alloc: Global, params: &Params, rec: &Rec) -> Result<KeptLists, AllocError>
     requires { AreValidParams params.now }
-    ensures { IfOk result (λ lists. lists ≡ option_map_or (Lists.response_lists params.now) (response_message (record_parts rec.now)) Lists.no_lists) }
+    ensures { IfOk result (λ lists. lists ≡
+        option_map_or (Lists.response_lists params.now) (response_message (record_parts rec.now)) Lists.no_lists) }
 {
     match rec.response_message() {
         Some(response) => response_lists(alloc, params, response),

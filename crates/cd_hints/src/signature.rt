@@ -137,7 +137,8 @@ fn record_counts(message: Option<&Message>) -> RecordCounts
 
 // What is kept of the type and the class of the lead question.
 fn kept_classtype(hints: u32, rec: &Rec) -> Option<(u16, u16)>
-    ensures { result ≡ Hinted.kept hints SIG_CLASSTYPE (option_map (λ q. (q.rtype, q.rclass)) (Items.lead_question (record_parts rec.now))) }
+    ensures { result ≡
+        Hinted.kept hints SIG_CLASSTYPE (option_map (λ q. (q.rtype, q.rclass)) (Items.lead_question (record_parts rec.now))) }
 {
     if !is_hinted(hints, SIG_CLASSTYPE) {
         return None;
@@ -155,7 +156,8 @@ fn kept_server_address(
     server: &Addr,
 ) -> Result<Option<Blob>, AllocError>
     requires { AreValidParams params.now }
-    ensures { IfOk result (λ kept_address. kept_address ≡ Hinted.kept params.now.hints.sig SIG_SERVER_ADDRESS (Some (Addresses.server_address params.now.prefixes server.now))) }
+    ensures { IfOk result (λ kept_address. kept_address ≡
+        Hinted.kept params.now.hints.sig SIG_SERVER_ADDRESS (Some (Addresses.server_address params.now.prefixes server.now))) }
 {
     if !is_hinted(params.hints.sig, SIG_SERVER_ADDRESS) {
         return Ok(None);
@@ -170,7 +172,8 @@ fn kept_options(
     params: &Params,
     opt: Option<OptRef>,
 ) -> Result<Option<Blob>, AllocError>
-    ensures { IfOk result (λ options. options ≡ Hinted.kept params.now.hints.sig SIG_OPT_RDATA (option_map (λ o. o.rdata) (option_map opt_seen opt.entry))) }
+    ensures { IfOk result (λ options. options ≡
+        Hinted.kept params.now.hints.sig SIG_OPT_RDATA (option_map (λ o. o.rdata) (option_map opt_seen opt.entry))) }
 {
     if !is_hinted(params.hints.sig, SIG_OPT_RDATA) {
         return Ok(None);

@@ -49,7 +49,8 @@ fn malformed_of(
     requires valid { IsValid settings.now }
     requires kinds { HaveKinds (map record_parts recs.now) }
     requires early { IsEarliest settings.now.params.ticks earliest (map record_parts recs.now) }
-    ensures { IfOk result (λ items. items ≡ Blocks.kept_malformed_items settings.now.params (map record_parts recs.now) earliest) }
+    ensures { IfOk result (λ items. items ≡
+        Blocks.kept_malformed_items settings.now.params (map record_parts recs.now) earliest) }
 {
     let mut items = Vec::new(alloc);
     if settings.params.hints.other & OTHER_MALFORMED == 0 {

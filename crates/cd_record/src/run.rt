@@ -81,7 +81,12 @@ impl Run {
     /// The records of the block, of which a second has so many ticks.
     pub(crate) fn into_block(self, ticks: u64) -> BlockRecords
         requires { 0 < ticks }
-        ensures { run_parts result ≡ record { records = map record_parts self.recs.items; stats = self.tally.stats; earliest = option_map (Earliest.stamp_of ticks) self.tally.earliest } }
+        ensures { run_parts result ≡
+            record {
+              records = map record_parts self.recs.items;
+              stats = self.tally.stats;
+              earliest = option_map (Earliest.stamp_of ticks) self.tally.earliest;
+            } }
     {
         let Run { recs, tally } = self;
         BlockRecords {

@@ -332,21 +332,21 @@ fn a_pair_is_two_messages_and_one_item(rt: HostRuntime) -> Result<(), AllocError
     let mut cutter = cutter_of(
         rt.alloc(),
         &settings,
-        &[(6, QUERY), (5, QUERY)],
+        &[(9, QUERY)],
         &mut Vec::new(rt.alloc()),
     )?;
     let query = event(rt.alloc(), 4, QUERY)?;
     let response = event(rt.alloc(), 3, RESPONSE)?;
     let given = push(&mut cutter, &settings, pair(&rt, query, response))?;
     assert!(rt; given.is_none());
-    assert_eq!(rt; (cutter.pending(), cutter.pending_weight()), (3, 1024));
+    assert_eq!(rt; (cutter.pending(), cutter.pending_weight()), (2, 768));
     let Some(run) = cutter.finish() else {
         panic!(rt; "no run");
     };
     let stats = Stats {
-        processed: 4,
-        items: 3,
-        unmatched_queries: 2,
+        processed: 3,
+        items: 2,
+        unmatched_queries: 1,
         ..NONE
     };
     assert_eq!(rt; run.stats, stats);

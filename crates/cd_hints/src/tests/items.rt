@@ -272,7 +272,13 @@ fn a_pair(rt: HostRuntime) -> Result<(), AllocError> {
         },
         ..pair()
     };
-    expect_kept(&rt, exchange, false, Some(&[1]), &expected)
+    expect_kept(&rt, exchange, false, Some(&[1]), &expected)?;
+    let later = Expected {
+        delay: Some(1_100_000),
+        ..pair()
+    };
+    let exchange = (sent(100_000, QUERY), sent(1_200_000, RESPONSE));
+    expect_kept(&rt, exchange, false, None, &later)
 }
 
 #[test]
