@@ -53,9 +53,9 @@ pub struct BlockSig {
     pub dns_flags: Option<u16>,
     /// The RCODE of twelve bits of the query.
     pub query_rcode: Option<u16>,
-    /// The place of the type and the class of the first question in `classtype`.
+    /// The place of the type and the class of the lead question in `classtype`.
     pub classtype: Option<u64>,
-    /// The number of questions.
+    /// The number of questions of the query, or else of the response.
     pub qd: Option<u16>,
     /// The number of answers of the query.
     pub an: Option<u16>,
@@ -88,11 +88,11 @@ pub struct BlockItem {
     pub client_hoplimit: Option<u8>,
     /// Ticks from the query to the response, fewer than 0 where the response came first.
     pub response_delay: Option<i64>,
-    /// The place of the name of the first question in `name_rdata`.
+    /// The place of the name of the lead question in `name_rdata`.
     pub query_name: Option<u64>,
-    /// Bytes of the query's message.
+    /// Bytes of the query's payload, with those behind its message.
     pub query_size: Option<u64>,
-    /// Bytes of the response's message.
+    /// Bytes of the response's payload, with those behind its message.
     pub response_size: Option<u64>,
     pub query_extended: BlockLists,
     pub response_extended: BlockLists,

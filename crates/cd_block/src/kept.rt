@@ -48,9 +48,9 @@ pub struct KeptSig {
     pub dns_flags: Option<u16>,
     /// The RCODE of twelve bits of the query.
     pub query_rcode: Option<u16>,
-    /// The type and the class of the first question.
+    /// The type and the class of the lead question: the query's first one, or else the response's.
     pub classtype: Option<(u16, u16)>,
-    /// The number of questions.
+    /// The number of questions of the query, or else of the response.
     pub qd: Option<u16>,
     /// The number of answers of the query.
     pub an: Option<u16>,
@@ -82,11 +82,11 @@ pub struct KeptItem {
     pub client_hoplimit: Option<u8>,
     /// Ticks from the query to the response, fewer than 0 where the response came first.
     pub response_delay: Option<i64>,
-    /// The name of the first question.
+    /// The name of the lead question: the query's first one, or else the response's.
     pub query_name: Option<Name>,
-    /// Bytes of the query's message.
+    /// Bytes of the query's payload, with those behind its message.
     pub query_size: Option<u64>,
-    /// Bytes of the response's message.
+    /// Bytes of the response's payload, with those behind its message.
     pub response_size: Option<u64>,
     pub query_extended: KeptLists,
     pub response_extended: KeptLists,

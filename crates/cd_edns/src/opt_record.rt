@@ -10,6 +10,7 @@ pub struct Opt {
     pub udp_size: u16,
     /// The high eight bits of the full RCODE.
     pub ext_rcode: u8,
+    /// The version of EDNS.
     pub version: u8,
     /// Whether the sender takes DNSSEC records.
     pub dnssec_ok: bool,
@@ -24,6 +25,7 @@ pub struct OptRef<'a> {
     pub udp_size: u16,
     /// The high eight bits of the full RCODE.
     pub ext_rcode: u8,
+    /// The version of EDNS.
     pub version: u8,
     /// Whether the sender takes DNSSEC records.
     pub dnssec_ok: bool,

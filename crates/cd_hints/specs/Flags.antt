@@ -6,14 +6,15 @@ use Rattle.cd_block.specs.declared.flags.TheConstants as flag
 use Rattle.cd_edns.specs.Opts.{opt_of_message}
 use Rattle.cd_message.specs.declared.message.Message.{Message}
 use Rattle.cd_ident.specs.Events.{EventParts}
+use Rattle.cd_ident.specs.declared.primary.TheConstants.{TRANSPORT}
 
 -- a flag that is set where the test holds
 abbrev pub flag_where : Bool → ℕ → ℕ
 flag_where test flag = if test then flag else 0
 
--- The transport of an event: byte 37 of its primary, 0 for UDP.
+-- The transport of an event, a byte of its primary: 0 for UDP.
 abbrev pub transport_of : EventParts → ℕ
-transport_of e = slice_index e.ids.primary 37
+transport_of e = slice_index e.ids.primary TRANSPORT
 
 -- The transport flags: the version of IP, the transport in the bits 1 to 4, and whether bytes stand behind the query.
 abbrev pub transport_flags : EventParts → Bool → ℕ

@@ -1,15 +1,13 @@
-//! The records of messages that are dropped for their type.
+//! The resource records of messages that are dropped for their type.
 
 ghost use Rattle.std.specs.Prelude.{◌≡◌, ◌≤◌, ◌*◌, length};
-ghost use Rattle.std.specs.Option.{option_map_or};
 ghost use Rattle.cd_message.specs.Valid.{Valid};
 ghost use Rattle.cd_hints.specs.Lists;
-ghost use Rattle.cd_hints.specs.Records.{record_parts, HasKinds, message_in};
+ghost use Rattle.cd_hints.specs.Records.{record_parts};
 
 use crate::listed_types::is_listed_type;
 use crate::record::Rec;
 use crate::settings::Settings;
-use cd_ident::{Body, Event};
 use cd_message::{Message, OPT, Rr};
 
 /// How many records have a type that is not listed.
@@ -57,41 +55,19 @@ fn response_dropped(types: &[u16], response: &Message) -> u64
         + unlisted_count(types, response.additional.as_slice())
 }
 
-/// The records of a query that are dropped, where it has a message.
-fn dropped_of_query(types: &[u16], query: &Event) -> u64
-    ensures exact { result ≡ option_map_or (Lists.query_dropped types.now) (message_in query.now.body) 0 }
-    ensures bound { result ≤ 3 * 65535 }
-{
-    match &query.body {
-        Body::Message(message) => query_dropped(types, message),
-        Body::Payload(_) | Body::Nothing => 0,
-    }
-}
-
-/// The records of a response that are dropped, where it has a message.
-fn dropped_of_response(types: &[u16], response: &Event) -> u64
-    ensures exact { result ≡ option_map_or (Lists.response_dropped types.now) (message_in response.now.body) 0 }
-    ensures bound { result ≤ 3 * 65535 }
-{
-    match &response.body {
-        Body::Message(message) => response_dropped(types, message),
-        Body::Payload(_) | Body::Nothing => 0,
-    }
-}
-
-/// How many records in the messages of a record have a type that is not listed, whatever the hints are. The OPT record of a
-/// query is not counted. 0 for a payload that is no message, and for a message whose opcode is not listed.
+/// How many resource records in the messages of a record have a type that is not listed, whatever the hints are. The OPT record
+/// of a query is not counted. 0 for a malformed message, and for one whose opcode is not listed.
 pub fn dropped(settings: &Settings, rec: &Rec) -> u64
-    requires { HasKinds (record_parts rec.now) }
     ensures { result ≡ Lists.dropped settings.now.params.rr_types (record_parts rec.now) }
 {
     let types = settings.params.rr_types.as_slice();
-    match rec {
-        Rec::Pair { query, response } => {
-            dropped_of_query(types, query) + dropped_of_response(types, response)
-        }
-        Rec::Query(query) => dropped_of_query(types, query),
-        Rec::Response(response) => dropped_of_response(types, response),
-        Rec::Malformed(_) | Rec::Discarded(_) => 0,
-    }
+    let of_query = match rec.query_message() {
+        Some(query) => query_dropped(types, query),
+        None => 0,
+    };
+    let of_response = match rec.response_message() {
+        Some(response) => response_dropped(types, response),
+        None => 0,
+    };
+    of_query + of_response
 }

@@ -28,6 +28,7 @@ use cd_name::{Blob, Name};
 use cd_packet::Addr;
 use std::alloc::{AllocError, Global};
 
+/// The ID of a message.
 fn transaction_id(message: Option<&Message>) -> Option<u16>
     ensures { result ≡ option_map (λ m. m.id) (option_copied message.entry) }
 {
@@ -37,7 +38,7 @@ fn transaction_id(message: Option<&Message>) -> Option<u16>
     }
 }
 
-// The time to live or hop limit of the query.
+/// The time to live or hop limit of the query.
 fn hop_limit(rec: &Rec) -> Option<u8>
     ensures { result ≡ option_map (λ e. e.hop) (query_of (record_parts rec.now)) }
 {
@@ -47,7 +48,7 @@ fn hop_limit(rec: &Rec) -> Option<u8>
     }
 }
 
-// The bytes of the query's payload.
+/// The bytes of the query's payload.
 fn query_size(rec: &Rec) -> Option<u64>
     ensures { result ≡ option_map (λ e. e.size) (query_of (record_parts rec.now)) }
 {
@@ -57,7 +58,7 @@ fn query_size(rec: &Rec) -> Option<u64>
     }
 }
 
-// The bytes of the response's payload.
+/// The bytes of the response's payload.
 fn response_size(rec: &Rec) -> Option<u64>
     ensures { result ≡ option_map (λ e. e.size) (response_of (record_parts rec.now)) }
 {
@@ -67,7 +68,7 @@ fn response_size(rec: &Rec) -> Option<u64>
     }
 }
 
-// Ticks from the query to the response of a pair.
+/// Ticks from the query to the response of a pair.
 fn response_delay(params: &Params, rec: &Rec) -> Option<i64>
     requires { AreValidParams params.now }
     ensures { result ≡ Items.response_delay params.now (record_parts rec.now) }
@@ -83,7 +84,7 @@ fn response_delay(params: &Params, rec: &Rec) -> Option<i64>
     }
 }
 
-// What is kept of the client's address.
+/// What is kept of the client's address.
 fn kept_client_address(
     alloc: Global,
     params: &Params,
@@ -100,7 +101,7 @@ fn kept_client_address(
     Ok(Some(address))
 }
 
-// What is kept of the name of the lead question.
+/// What is kept of the name of the lead question.
 fn kept_query_name(alloc: Global, params: &Params, rec: &Rec) -> Result<Option<Name>, AllocError>
     ensures { IfOk result (λ name. name ≡
         Hinted.kept params.now.hints.qr QR_QUERY_NAME (option_map (λ q. q.name) (Items.lead_question (record_parts rec.now)))) }
@@ -117,7 +118,7 @@ fn kept_query_name(alloc: Global, params: &Params, rec: &Rec) -> Result<Option<N
     }
 }
 
-// The signature, where its hint is set.
+/// The signature, where its hint is set.
 fn hinted_signature(
     alloc: Global,
     params: &Params,
@@ -134,9 +135,8 @@ fn hinted_signature(
     Ok(Some(signature))
 }
 
-// The lists of the query, where there is one.
+/// The lists of the query, where there is one.
 fn query_extended(alloc: Global, params: &Params, rec: &Rec) -> Result<KeptLists, AllocError>
-    requires { AreValidParams params.now }
     ensures { IfOk result (λ lists. lists ≡
         option_map_or (Lists.query_lists params.now) (query_message (record_parts rec.now)) Lists.no_lists) }
 {
@@ -146,9 +146,8 @@ fn query_extended(alloc: Global, params: &Params, rec: &Rec) -> Result<KeptLists
     }
 }
 
-// The lists of the response, where there is one.
+/// The lists of the response, where there is one.
 fn response_extended(alloc: Global, params: &Params, rec: &Rec) -> Result<KeptLists, AllocError>
-    requires { AreValidParams params.now }
     ensures { IfOk result (λ lists. lists ≡
         option_map_or (Lists.response_lists params.now) (response_message (record_parts rec.now)) Lists.no_lists) }
 {
@@ -159,7 +158,8 @@ fn response_extended(alloc: Global, params: &Params, rec: &Rec) -> Result<KeptLi
 }
 
 /// The item of a pair, a query or a response, in a block with this earliest time, which is at or before the record's (RFC 8618
-/// 7.3.2.4). A field is there exactly where its hint is set and it has a value. An `Err` is for want of memory.
+/// 7.3.2.4). The settings must be valid. A field is there exactly where its hint is set and it has a value. An `Err` is for want of
+/// memory.
 pub fn kept_item(
     alloc: Global,
     settings: &Settings,

@@ -18,7 +18,7 @@ use cd_ident::{Body, Event};
 use cd_name::Blob;
 use std::alloc::{AllocError, Global};
 
-// A copy of the payload of a malformed message.
+/// A copy of the payload of a malformed message.
 fn copy_payload(alloc: Global, body: &Body) -> Result<Option<Blob>, AllocError>
     ensures { IfOk result (λ payload. payload ≡ payload_in body.now) }
 {
@@ -32,7 +32,7 @@ fn copy_payload(alloc: Global, body: &Body) -> Result<Option<Blob>, AllocError>
     }
 }
 
-// The data of a malformed message, whole.
+/// The data of a malformed message, whole.
 fn kept_data(alloc: Global, params: &Params, event: &Event) -> Result<KeptData, AllocError>
     requires { AreValidParams params.now }
     ensures { IfOk result (λ kept. kept ≡ Items.kept_data params.now (parts_of event.now)) }
@@ -47,8 +47,8 @@ fn kept_data(alloc: Global, params: &Params, event: &Event) -> Result<KeptData, 
     })
 }
 
-/// A malformed message, whole, in a block with this earliest time, which is at or before the record's (RFC 8618 7.3.2.6). An
-/// `Err` is for want of memory.
+/// A malformed message, whole, in a block with this earliest time, which is at or before the record's (RFC 8618 7.3.2.6). The
+/// settings must be valid, and the record must be a malformed message. An `Err` is for want of memory.
 pub fn kept_malformed(
     alloc: Global,
     settings: &Settings,

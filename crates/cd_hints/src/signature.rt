@@ -1,7 +1,7 @@
 //! The signature that is kept of a record (RFC 8618 7.3.2.3.2).
 
-ghost use Rattle.std.specs.Prelude.{◌≡◌, ◌≤◌, length, IfOk, slice_get, option_and_then};
-ghost use Rattle.std.specs.Option.{option_copied, option_map, option_or, ForSome};
+ghost use Rattle.std.specs.Prelude.{◌≡◌, length, IfOk, option_and_then};
+ghost use Rattle.std.specs.Option.{option_copied, option_map, ForSome};
 ghost use Rattle.cd_edns.specs.Opts.{opt_seen, opt_of_message, full_rcode_of};
 ghost use Rattle.cd_ident.specs.Headers;
 ghost use Rattle.cd_message.specs.Valid.{Valid};
@@ -29,7 +29,7 @@ use cd_name::Blob;
 use cd_packet::Addr;
 use std::alloc::{AllocError, Global};
 
-// The first question of a message, where there is a message and it has one.
+/// The first question of a message, where there is a message and it has one.
 fn first_question(message: Option<&Message>) -> Option<&Question>
     ensures { option_copied result ≡ option_and_then Items.first_question (option_copied message.entry) }
 {
@@ -49,7 +49,7 @@ pub(crate) fn lead_question(rec: &Rec) -> Option<&Question>
     }
 }
 
-// The OPT record of a message, where there is a message and it has one.
+/// The OPT record of a message, where there is a message and it has one.
 fn opt_in(message: Option<&Message>) -> Option<OptRef<'_>>
     ensures { option_map opt_seen result ≡ option_and_then opt_of_message (option_copied message.entry) }
 {
@@ -59,6 +59,7 @@ fn opt_in(message: Option<&Message>) -> Option<OptRef<'_>>
     }
 }
 
+/// The version of EDNS (RFC 6891 6.1.3).
 fn edns_version(opt: Option<OptRef>) -> Option<u8>
     ensures { result ≡ option_map (λ o. o.version) (option_map opt_seen opt.entry) }
 {
@@ -68,6 +69,7 @@ fn edns_version(opt: Option<OptRef>) -> Option<u8>
     }
 }
 
+/// The bytes of the largest UDP payload that the sender takes.
 fn udp_size(opt: Option<OptRef>) -> Option<u16>
     ensures { result ≡ option_map (λ o. o.udp_size) (option_map opt_seen opt.entry) }
 {
@@ -77,6 +79,7 @@ fn udp_size(opt: Option<OptRef>) -> Option<u16>
     }
 }
 
+/// The opcode of a message.
 fn opcode(message: Option<&Message>) -> Option<u8>
     ensures { result ≡ option_map (λ m. Headers.opcode_of m.bits) (option_copied message.entry) }
 {
@@ -86,6 +89,7 @@ fn opcode(message: Option<&Message>) -> Option<u8>
     }
 }
 
+/// The RCODE of twelve bits of a message.
 fn rcode(message: Option<&Message>) -> Option<u16>
     requires { ForSome message (λ m. Valid m.now) }
     ensures { result ≡ option_map full_rcode_of (option_copied message.entry) }
@@ -96,7 +100,7 @@ fn rcode(message: Option<&Message>) -> Option<u16>
     }
 }
 
-// How many questions a message has.
+/// How many questions a message has.
 fn question_count(message: Option<&Message>) -> Option<u16>
     requires { ForSome message (λ m. Valid m.now) }
     ensures { result ≡ option_map (λ m. length m.questions) (option_copied message.entry) }
@@ -107,7 +111,7 @@ fn question_count(message: Option<&Message>) -> Option<u16>
     }
 }
 
-// How many records each section of a message has.
+/// How many records each section of a message has.
 #[derive(Clone, Copy)]
 struct RecordCounts {
     answers: Option<u16>,
@@ -115,6 +119,7 @@ struct RecordCounts {
     additional: Option<u16>,
 }
 
+/// These numbers of a message, where there is one.
 fn record_counts(message: Option<&Message>) -> RecordCounts
     requires { ForSome message (λ m. Valid m.now) }
     ensures answers { result.answers ≡ option_map (λ m. length m.answers) (option_copied message.entry) }
@@ -135,7 +140,7 @@ fn record_counts(message: Option<&Message>) -> RecordCounts
     }
 }
 
-// What is kept of the type and the class of the lead question.
+/// What is kept of the type and the class of the lead question.
 fn kept_classtype(hints: u32, rec: &Rec) -> Option<(u16, u16)>
     ensures { result ≡
         Hinted.kept hints SIG_CLASSTYPE (option_map (λ q. (q.rtype, q.rclass)) (Items.lead_question (record_parts rec.now))) }
@@ -149,7 +154,7 @@ fn kept_classtype(hints: u32, rec: &Rec) -> Option<(u16, u16)>
     }
 }
 
-// What is kept of the server's address.
+/// What is kept of the server's address.
 fn kept_server_address(
     alloc: Global,
     params: &Params,
@@ -166,7 +171,7 @@ fn kept_server_address(
     Ok(Some(address))
 }
 
-// What is kept of the options of the query's OPT record.
+/// What is kept of the options of the query's OPT record.
 fn kept_options(
     alloc: Global,
     params: &Params,
@@ -187,7 +192,7 @@ fn kept_options(
     }
 }
 
-// Whether bytes stand behind the query's message.
+/// Whether bytes stand behind the query's message.
 fn is_query_trailing(rec: &Rec) -> bool
     ensures { result ≡ Items.is_query_trailing (record_parts rec.now) }
 {

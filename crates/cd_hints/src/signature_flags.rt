@@ -10,13 +10,10 @@ use cd_block::flags::{
     SIG_RESPONSE_HAS_NO_QUESTION, SIG_RESPONSE_HAS_OPT, TRANSPORT_IPV6, TRANSPORT_TRAILING_BYTES,
 };
 use cd_edns::opt_ref;
-use cd_ident::Event;
+use cd_ident::{Event, TRANSPORT};
 use cd_message::Message;
 
-/// The place of the transport in a primary.
-const TRANSPORT: usize = 37;
-
-// A flag that is set where the test holds.
+/// A flag that is set where the test holds.
 fn flag_where(test: bool, flag: u8) -> u8
     ensures flag { result ≡ Flags.flag_where test flag }
     ensures bound { result ≤ flag }
@@ -24,7 +21,7 @@ fn flag_where(test: bool, flag: u8) -> u8
     if test { flag } else { 0 }
 }
 
-/// The transport flags of an event, and of the query whether bytes stand behind it.
+/// The transport flags of an event. `trailing` tells whether bytes stand behind the query.
 pub(crate) fn transport_flags(event: &Event, trailing: bool) -> u8
     ensures { result ≡ Flags.transport_flags (parts_of event.now) trailing }
 {
@@ -33,20 +30,21 @@ pub(crate) fn transport_flags(event: &Event, trailing: bool) -> u8
         + flag_where(trailing, TRANSPORT_TRAILING_BYTES)
 }
 
-// Whether a message has an OPT record.
+/// Whether a message has an OPT record.
 fn has_opt(message: &Message) -> bool
     ensures { result ≡ Flags.has_opt message.now }
 {
     opt_ref(message).is_some()
 }
 
-// Whether a message has no question.
+/// Whether a message has no question.
 fn has_no_question(message: &Message) -> bool
     ensures { result ≡ Flags.has_no_question message.now }
 {
-    message.questions.as_slice().len() == 0
+    message.questions.as_slice().is_empty()
 }
 
+/// What the signature flags say of a query.
 fn query_signature_flags(query: &Message) -> u8
     ensures flags { result ≡ Flags.query_signature_flags query.now }
     ensures bound { result < 64 }
@@ -56,6 +54,7 @@ fn query_signature_flags(query: &Message) -> u8
         + flag_where(has_no_question(query), SIG_QUERY_HAS_NO_QUESTION)
 }
 
+/// What they say of a response.
 fn response_signature_flags(response: &Message) -> u8
     ensures flags { result ≡ Flags.response_signature_flags response.now }
     ensures bound { result < 64 }
@@ -80,14 +79,14 @@ pub(crate) fn signature_flags(query: Option<&Message>, response: Option<&Message
     of_query + of_response
 }
 
-// CD, AD, Z, RA, RD, TC and AA, the bits 4 to 10 of the header's second word, as the bits 0 to 6.
+/// CD, AD, Z, RA, RD, TC and AA, the bits 4 to 10 of the header's second word, as the bits 0 to 6.
 fn header_flags(message: &Message) -> u16
     ensures { result ≡ message.now.bits / 16 % 128 }
 {
     message.bits / 16 % 128
 }
 
-// Whether the sender of an OPT record takes DNSSEC records.
+/// Whether the sender of an OPT record takes DNSSEC records.
 fn is_dnssec_ok(query: &Message) -> bool
     ensures { result ≡ Flags.is_dnssec_ok query.now }
 {
@@ -97,6 +96,7 @@ fn is_dnssec_ok(query: &Message) -> bool
     }
 }
 
+/// The DNS flags of a query.
 #[tactic(auto, using(crate::proofs::HeaderFlags::query_flags_of))]
 fn query_dns_flags(query: &Message) -> u16
     ensures flags { result ≡ Flags.query_dns_flags query.now }
@@ -106,6 +106,7 @@ fn query_dns_flags(query: &Message) -> u16
     header_flags(query) + dnssec_ok
 }
 
+/// The DNS flags of a response.
 #[tactic(auto, using(crate::proofs::HeaderFlags::response_flags_of))]
 fn response_dns_flags(response: &Message) -> u16
     ensures flags { result ≡ Flags.response_dns_flags response.now }

@@ -12,7 +12,7 @@ use cd_name::Blob;
 use cd_packet::Addr;
 use std::alloc::{AllocError, Global};
 
-// The first bytes of an address, as many as hold these bits.
+/// The first bytes of an address, as many as hold these bits.
 fn stored_address(alloc: Global, bits: Option<u8>, addr: &Addr) -> Result<Blob, AllocError>
     requires { ForSome bits (λ n. n ≤ width_of addr.now.v6) }
     ensures { IfOk result (λ bytes. bytes ≡ Addresses.stored_address bits addr.now) }
@@ -21,7 +21,7 @@ fn stored_address(alloc: Global, bits: Option<u8>, addr: &Addr) -> Result<Blob, 
     copy_blob(alloc, &octets[..size])
 }
 
-// The bits that are kept of a client's address of this version of IP.
+/// The bits that are kept of a client's address of this version of IP.
 fn client_prefix(prefixes: &[Option<u8>; 4], v6: bool) -> Option<u8>
     requires { AreValidPrefixes prefixes.now }
     ensures bits { result ≡ Addresses.client_prefix prefixes.now v6 }
@@ -30,7 +30,7 @@ fn client_prefix(prefixes: &[Option<u8>; 4], v6: bool) -> Option<u8>
     if v6 { prefixes[1] } else { prefixes[0] }
 }
 
-// The bits that are kept of a server's address of this version of IP.
+/// The bits that are kept of a server's address of this version of IP.
 fn server_prefix(prefixes: &[Option<u8>; 4], v6: bool) -> Option<u8>
     requires { AreValidPrefixes prefixes.now }
     ensures bits { result ≡ Addresses.server_prefix prefixes.now v6 }

@@ -1,8 +1,10 @@
 //! Settings and their options, addresses, and what is kept of records.
 
-mod ends;
+mod addresses;
+mod dropped_records;
 mod hinted;
 mod items;
+mod malformed_messages;
 mod records;
 
 use crate::{

@@ -6,7 +6,7 @@ use Rattle.cd_ident.specs.declared.event_making.TheConstants.{GREATEST_WEIGHT}
 use Rattle.cd_ident.specs.declared.event_rules.EventRules.{EventRules}
 use Rattle.cd_ident.specs.Events.{event_parts}
 
--- a weight between the least and the greatest one
+-- a weight within the bounds
 pub record IsEventWeight (weight : ℕ) : Type 0 where
   pub least : LEAST_WEIGHT ≤ weight
   pub greatest : weight ≤ GREATEST_WEIGHT

@@ -20,8 +20,7 @@ use cd_packet::Dgram;
 use cd_pairing::LEAST_WEIGHT;
 use std::alloc::{AllocError, Global};
 
-/// The greatest weight of the event of a datagram whose payload has at most 65,535 bytes. The least one is `LEAST_WEIGHT` of
-/// cd_pairing.
+/// No event of a datagram whose payload has at most 65,535 bytes weighs more. None weighs less than `LEAST_WEIGHT` of cd_pairing.
 pub const GREATEST_WEIGHT: u64 = 3_400_000;
 
 // The identifiers of what is no message, or is not listed.

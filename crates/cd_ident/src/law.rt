@@ -24,7 +24,8 @@ pub fn responses_have_the_primary()
     ensures { ResponsesHaveThePrimary }
 {}
 
-/// The event of a datagram weighs at least `LEAST_WEIGHT`, and at most `GREATEST_WEIGHT` where the payload has at most 65,535 bytes.
+/// Where its payload has at most 65,535 bytes, the event of a datagram weighs at least `LEAST_WEIGHT` and at most
+/// `GREATEST_WEIGHT`.
 pub fn event_weights_are_bounded()
     ensures { EventWeightsAreBounded }
 {}

@@ -33,3 +33,4 @@ pub use law::{
     compatible_ids_are_the_keys, event_weights_are_bounded, primaries_are_exact,
     responses_have_the_primary, secondaries_are_exact,
 };
+pub use primary::TRANSPORT;

@@ -9,7 +9,7 @@ use Rattle.cd_block.specs.declared.stamp.Stamp.{Stamp}
 use Rattle.cd_hints.specs.Records.{RecordParts, pair, unmatched_query, unmatched_response, malformed, discarded, record_parts, main_event, IsItem, IsMalformed}
 use Rattle.cd_hints.specs.Ticks.{stamp_tick, IsAtOrBefore}
 use Rattle.cd_hints.specs.declared.record.Rec.{Rec}
-use Rattle.cd_record.specs.Earliest.{IsEarly, IsEarliest}
+use Rattle.cd_record.specs.Earliest.{IsEarly, IsEarlyForEach}
 use Rattle.cd_record.specs.Earliest.{record_tick, earliest_time, stamp_of}
 
 -- what holds of each record of a run holds of the one at an index
@@ -66,6 +66,6 @@ stamp_below ticks s (x ∷ xs) e =
     subst P (sym tick) (least_below x xs)
 
 -- the earliest time of a run is at or before the time of each of its records
-pub earliest_is_early : (ticks : ℕ) (s : Stamp) (run : List RecordParts) → Some s ≡ earliest_time ticks run → IsEarliest ticks s run
+pub earliest_is_early : (ticks : ℕ) (s : Stamp) (run : List RecordParts) → Some s ≡ earliest_time ticks run → IsEarlyForEach ticks s run
 earliest_is_early ticks s run e =
     All-from_recursion _ run (values_of_items _ (record_tick ticks) run (stamp_below ticks s (filter_map (record_tick ticks) run) e))

@@ -35,5 +35,5 @@ abbrev pub IsEarly : ℕ → Stamp → RecordParts → Type 0
 IsEarly ticks s r = IfSome (record_tick ticks r) (λ tick. stamp_tick ticks s ≤ tick)
 
 -- the stamp is at or before the time of each record
-abbrev pub IsEarliest : ℕ → Stamp → List RecordParts → Type 0
-IsEarliest ticks s run = All (IsEarly ticks s) run
+abbrev pub IsEarlyForEach : ℕ → Stamp → List RecordParts → Type 0
+IsEarlyForEach ticks s run = All (IsEarly ticks s) run

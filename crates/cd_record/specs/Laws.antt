@@ -22,7 +22,7 @@ pub record HaveOneCut (limits : Limits) (records : List RecordParts) : Type 0 wh
 abbrev pub RunsAreOne : Type 0
 RunsAreOne = (limits : Limits) (records : List RecordParts) → All (IsAdmissibleAlone limits) records → HaveOneCut limits records
 
--- the event weighs at most as much as the heaviest event of a datagram
+-- the event weighs at most `GREATEST_WEIGHT`, as those of datagrams do
 abbrev pub IsLight : EventParts → Type 0
 IsLight e = e.weight ≤ GREATEST_WEIGHT
 

@@ -5,7 +5,7 @@ ghost use Rattle.cd_hints.specs.Records.{record_parts};
 ghost use Rattle.cd_hints.specs.Validity.{IsValid};
 ghost use Rattle.cd_record.specs.Blocks.{run_parts, IsCounted, HaveKinds};
 ghost use Rattle.cd_record.specs.Blocks;
-ghost use Rattle.cd_record.specs.Earliest.{IsEarliest};
+ghost use Rattle.cd_record.specs.Earliest.{IsEarlyForEach};
 
 use crate::block_records::BlockRecords;
 use cd_block::hints::OTHER_MALFORMED;
@@ -14,7 +14,7 @@ use cd_hints::{Rec, Settings, kept_item, kept_malformed};
 use cd_name::List;
 use std::alloc::{AllocError, Global};
 
-// The items of the pairs, queries and responses, in a block with this earliest time.
+/// The items of the pairs, queries and responses, in a block with this earliest time.
 fn items_of(
     alloc: Global,
     settings: &Settings,
@@ -23,7 +23,7 @@ fn items_of(
 ) -> Result<List<KeptItem>, AllocError>
     requires valid { IsValid settings.now }
     requires kinds { HaveKinds (map record_parts recs.now) }
-    requires early { IsEarliest settings.now.params.ticks earliest (map record_parts recs.now) }
+    requires early { IsEarlyForEach settings.now.params.ticks earliest (map record_parts recs.now) }
     ensures { IfOk result (λ items. items ≡ Blocks.kept_items settings.now.params (map record_parts recs.now) earliest) }
 {
     let mut items = Vec::new(alloc);
@@ -39,7 +39,7 @@ fn items_of(
     Ok(List::from_vec(items))
 }
 
-// The malformed records, in a block with this earliest time. None is kept where their hint is not set.
+/// The malformed records, in a block with this earliest time. None is kept where their hint is not set.
 fn malformed_of(
     alloc: Global,
     settings: &Settings,
@@ -48,14 +48,14 @@ fn malformed_of(
 ) -> Result<List<KeptMalformed>, AllocError>
     requires valid { IsValid settings.now }
     requires kinds { HaveKinds (map record_parts recs.now) }
-    requires early { IsEarliest settings.now.params.ticks earliest (map record_parts recs.now) }
+    requires early { IsEarlyForEach settings.now.params.ticks earliest (map record_parts recs.now) }
     ensures { IfOk result (λ items. items ≡
         Blocks.kept_malformed_items settings.now.params (map record_parts recs.now) earliest) }
 {
-    let mut items = Vec::new(alloc);
     if settings.params.hints.other & OTHER_MALFORMED == 0 {
-        return Ok(List::from_vec(items));
+        return Ok(List::from_vec(Vec::new(alloc)));
     }
+    let mut items = Vec::new(alloc);
     for rec in recs {
         if let Rec::Malformed(_) = rec {
             let item = kept_malformed(alloc, settings, rec, earliest)?;
@@ -66,8 +66,8 @@ fn malformed_of(
 }
 
 /// What is kept of the records of a block (RFC 8618 7.3.2): the items of its pairs, queries and responses, and its malformed
-/// records where their hint is set, each in the order of the records. The statistics and the earliest time must be those of the
-/// records. An `Err` is for want of memory.
+/// messages where their hint is set, each in the order of the records. Its block parameters are the first of the file. The settings
+/// must be valid, and the statistics and the earliest time must be those of the records. An `Err` is for want of memory.
 #[tactic(auto, using(crate::proofs::Keeping::earliest_is_early))]
 pub fn kept_block(
     alloc: Global,

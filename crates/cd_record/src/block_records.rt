@@ -10,6 +10,7 @@ pub struct BlockRecords {
     /// The statistics of the records (RFC 8618 7.3.2.2).
     pub stats: Stats,
     /// The least time of pairs, queries, responses and malformed records, kept or not, or none (RFC 8618 7.3.2.1). A pair has
-    /// the time of its query.
+    /// the time of its query. As seconds and ticks within the second, of
+    /// the settings' ticks.
     pub earliest: Option<Stamp>,
 }

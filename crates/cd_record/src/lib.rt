@@ -4,6 +4,8 @@
 //! - A *run* is the records of one block, within the limits of items, of malformed records and of weight.
 //! - A *cutter* cuts a list of records into runs from the left, each as long as it can be, and counts each.
 //! - The *kept block* of a run holds what is kept of its records, with each value where it belongs.
+//!
+//! Example: where a block has two items at most, three queries are two runs, of two records and of one.
 #![tactic(auto)]
 
 mod block_making;

@@ -24,7 +24,7 @@ pub(crate) struct Run {
     pub(crate) tally: Tally,
 }
 
-// A tick as seconds and ticks within the second, of which a second has so many.
+/// A tick as seconds and ticks within the second, of which a second has so many.
 fn stamp_of(ticks: u64, tick: u64) -> Stamp
     requires { 0 < ticks }
     ensures { result ≡ Earliest.stamp_of ticks tick }

@@ -20,7 +20,7 @@ pub(crate) struct Tally {
     pub(crate) earliest: Option<u64>,
 }
 
-// The statistics with one more record.
+/// The statistics with one more record.
 fn stats_with(stats: Stats, rec: &Rec) -> Stats
     requires { Tallies.HaveRoom stats }
     ensures { result ≡ Tallies.stats_with stats (record_parts rec.now) }
@@ -55,7 +55,7 @@ fn stats_with(stats: Stats, rec: &Rec) -> Stats
     }
 }
 
-// The weight of a record: that of its events.
+/// The weight of a record: that of its events.
 fn weight_of(rec: &Rec) -> u64
     requires { record_weight (record_parts rec.now) < 2 ^ 64 }
     ensures { result ≡ record_weight (record_parts rec.now) }
@@ -67,7 +67,7 @@ fn weight_of(rec: &Rec) -> u64
     }
 }
 
-// The time of a record: a pair has that of its query, and what is discarded has none.
+/// The time of a record: a pair has that of its query, and what is discarded has none.
 fn time_of(rec: &Rec) -> Option<u64>
     ensures { result ≡ Earliest.time_of (record_parts rec.now) }
 {
@@ -78,7 +78,7 @@ fn time_of(rec: &Rec) -> Option<u64>
     }
 }
 
-// The tick of a record's time.
+/// The tick of a record's time.
 fn record_tick(ticks: u64, rec: &Rec) -> Option<u64>
     requires { Admits Ticks ticks }
     ensures { result ≡ Earliest.record_tick ticks (record_parts rec.now) }
@@ -86,7 +86,7 @@ fn record_tick(ticks: u64, rec: &Rec) -> Option<u64>
     time_of(rec).map(|time| tick_of(ticks, time))
 }
 
-// The lesser of two ticks, where both are there.
+/// The lesser of two ticks, where both are there.
 fn earlier(one: Option<u64>, other: Option<u64>) -> Option<u64>
     ensures { result ≡ Tallies.earlier one other }
 {

@@ -14,13 +14,16 @@ use cd_packet::{Addr, Dgram};
 use std::alloc::{AllocError, Global};
 use std::process::Abort;
 
-/// Headers alone: a query and its response, a query of opcode 4 (NOTIFY), and too few bytes.
+/// A query that is a header alone.
 const QUERY: &[u8] = b"\x1a\x2b\x01\x00\x00\x00\x00\x00\x00\x00\x00\x00";
 
+/// Its response.
 const RESPONSE: &[u8] = b"\x1a\x2b\x81\x80\x00\x00\x00\x00\x00\x00\x00\x00";
 
+/// A query of opcode 4 (NOTIFY), which is not listed.
 const NOTIFY: &[u8] = b"\x1a\x2b\x20\x00\x00\x00\x00\x00\x00\x00\x00\x00";
 
+/// Too few bytes for a header.
 const NO_MESSAGE: &[u8] = b"\x1a\x2b\x01";
 
 const CLIENT: Addr = Addr {
@@ -89,7 +92,8 @@ fn push(
     }
 }
 
-/// A cutter to which these payloads were pushed, each standing alone so many seconds after TIME, and to `runs` the runs given.
+/// A cutter to which these payloads were pushed, each standing alone so many seconds after TIME. The runs that it gives are put
+/// into `runs`.
 fn cutter_of(
     alloc: Global,
     settings: &Settings,

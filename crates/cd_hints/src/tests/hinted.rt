@@ -3,7 +3,7 @@
 ghost use Rattle.std.specs.Prelude.{◌<◌};
 
 use crate::NumberOption;
-use crate::tests::records::{FULL_QUERY, FULL_RESPONSE, Sent, item, record, settings_of};
+use crate::tests::records::{FULL_QUERY, FULL_RESPONSE, Sent, item, record, settings_with};
 use cd_block::{KeptItem, KeptLists, KeptRr, KeptSig};
 use cd_name::List;
 use std::alloc::{AllocError, Global};
@@ -83,12 +83,7 @@ fn item_with(
     option: NumberOption,
     number: u32,
 ) -> Result<Option<KeptItem>, AllocError> {
-    let mut settings = settings_of(alloc, None)?;
-    let number = u64::from(number);
-    if !option.admits(number) {
-        return Ok(None);
-    }
-    settings.put(option, number);
+    let settings = settings_with(alloc, option, u64::from(number))?;
     let query = Sent {
         micros: 100_000,
         payload: FULL_QUERY,
@@ -103,7 +98,7 @@ fn item_with(
     }
 }
 
-/// The fields of the item that are there with this number for an option.
+/// Compares which fields are there: of the item, of its signature, and of the first answer of the response.
 fn expect_fields(
     rt: &impl Abort,
     item: Option<KeptItem>,

@@ -2,10 +2,10 @@
 
 use crate::tests::records::{
     EXTENDED_QUERY, EXTENDED_RESPONSE, NAME, NO_QUESTION, NOTIFY, QUERY, RESPONSE, Sent,
-    THREE_QUESTIONS, TWO_QUESTIONS, item, record, settings_of,
+    THREE_QUESTIONS, TWO_QUESTIONS, bytes_of, item, record, settings_of,
 };
 use cd_block::{KeptItem, KeptLists, KeptQuestion, KeptRr, KeptSig};
-use cd_name::{Blob, List, Name};
+use cd_name::{List, Name};
 use std::alloc::AllocError;
 use std::process::Abort;
 
@@ -135,13 +135,6 @@ fn bare_query() -> Expected {
 fn name_of(name: &Option<Name>) -> Option<&[u8]> {
     match name {
         Some(name) => Some(name.as_slice()),
-        None => None,
-    }
-}
-
-fn bytes_of(bytes: &Option<Blob>) -> Option<&[u8]> {
-    match bytes {
-        Some(bytes) => Some(bytes.as_slice()),
         None => None,
     }
 }

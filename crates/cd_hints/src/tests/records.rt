@@ -6,10 +6,10 @@ ghost use Rattle.cd_hints.specs.Options.{Admits};
 ghost use Rattle.cd_hints.specs.Ticks.{IsAtOrBefore};
 ghost use Rattle.cd_hints.specs.declared.options.NumberOption.TheVariants.{Ticks};
 
-use crate::{Rec, Settings, default_settings, kept_item, tick_of, valid};
+use crate::{NumberOption, Rec, Settings, default_settings, kept_item, tick_of, valid};
 use cd_block::{KeptItem, Stamp};
 use cd_ident::{Event, EventRules, Kind, event_of};
-use cd_name::List;
+use cd_name::{Blob, List};
 use cd_packet::{Addr, Dgram};
 use std::alloc::{AllocError, Global};
 
@@ -236,3 +236,32 @@ pub fn settings_of(alloc: Global, types: Option<&[u16]>) -> Result<Settings, All
     }
     Ok(settings)
 }
+
+/// The defaults, with this number for an option where it admits it.
+pub fn settings_with(
+    alloc: Global,
+    option: NumberOption,
+    number: u64,
+) -> Result<Settings, AllocError> {
+    let mut settings = default_settings(alloc)?;
+    if option.admits(number) {
+        settings.put(option, number);
+    }
+    Ok(settings)
+}
+
+/// The bytes of a field, where it is there.
+pub fn bytes_of(bytes: &Option<Blob>) -> Option<&[u8]> {
+    match bytes {
+        Some(bytes) => Some(bytes.as_slice()),
+        None => None,
+    }
+}
+
+pub const CLIENT4: &[u8] = b"\xc0\x00\x02\x4d";
+
+pub const SERVER4: &[u8] = b"\xc0\x00\x02\x35";
+
+pub const CLIENT6: &[u8] = b"\x20\x01\x0d\xb8\xff\xff\xff\xff\xff\xff\xff\xff\xff\xff\xff\x77";
+
+pub const SERVER6: &[u8] = b"\x20\x01\x0d\xb8\xff\xff\xff\xff\xff\xff\xff\xff\xff\xff\xff\x53";
