@@ -1,6 +1,7 @@
 //! The resource records of messages that are dropped for their type.
 
 ghost use Rattle.std.specs.Prelude.{◌≡◌, ◌≤◌, ◌*◌, length};
+ghost use Rattle.std.specs.Option.{ForSome, option_copied, option_map_or};
 ghost use Rattle.cd_message.specs.Valid.{Valid};
 ghost use Rattle.cd_hints.specs.Lists;
 ghost use Rattle.cd_hints.specs.Records.{record_parts};
@@ -55,19 +56,36 @@ fn response_dropped(types: &[u16], response: &Message) -> u64
         + unlisted_count(types, response.additional.as_slice())
 }
 
+/// The records of a query that are dropped, where there is one.
+fn dropped_of_query(types: &[u16], query: Option<&Message>) -> u64
+    requires { ForSome query (λ m. Valid m.now) }
+    ensures exact { result ≡ option_map_or (Lists.query_dropped types.now) (option_copied query.entry) 0 }
+    ensures bound { result ≤ 3 * 65535 }
+{
+    match query {
+        Some(query) => query_dropped(types, query),
+        None => 0,
+    }
+}
+
+/// The records of a response that are dropped, where there is one.
+fn dropped_of_response(types: &[u16], response: Option<&Message>) -> u64
+    requires { ForSome response (λ m. Valid m.now) }
+    ensures exact { result ≡ option_map_or (Lists.response_dropped types.now) (option_copied response.entry) 0 }
+    ensures bound { result ≤ 3 * 65535 }
+{
+    match response {
+        Some(response) => response_dropped(types, response),
+        None => 0,
+    }
+}
+
 /// How many resource records in the messages of a record have a type that is not listed, whatever the hints are. The OPT record
 /// of a query is not counted. 0 for a malformed message, and for one whose opcode is not listed.
 pub fn dropped(settings: &Settings, rec: &Rec) -> u64
     ensures { result ≡ Lists.dropped settings.now.params.rr_types (record_parts rec.now) }
 {
     let types = settings.params.rr_types.as_slice();
-    let of_query = match rec.query_message() {
-        Some(query) => query_dropped(types, query),
-        None => 0,
-    };
-    let of_response = match rec.response_message() {
-        Some(response) => response_dropped(types, response),
-        None => 0,
-    };
-    of_query + of_response
+    dropped_of_query(types, rec.query_message())
+        + dropped_of_response(types, rec.response_message())
 }
