@@ -16,6 +16,7 @@ mod blob;
 mod fault;
 mod label_run;
 mod law;
+mod leads;
 mod list;
 mod name;
 mod name_reader;
