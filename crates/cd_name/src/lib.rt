@@ -23,6 +23,7 @@ mod name_reader;
 mod name_reading;
 #[cfg(test)]
 mod name_tests;
+mod name_walk;
 mod name_writer;
 #[cfg(test)]
 mod name_writer_tests;
