@@ -1,18 +1,15 @@
-use Rattle.std.proofs.Common.{◌≡◌, ◌+◌, ◌-◌, ◌++◌, ◌∷◌, [], ◌∙◌, ap, sym, subst, arith, length, take, drop, Ok}
+use Rattle.std.proofs.Common.{◌≡◌, ◌+◌, ◌-◌, ◌++◌, ◌∙◌, ap, sym, subst, arith, length, take, drop}
 use Rattle.cd_name.proofs.Labels.{AreLabels, labels_are_name, labels_with_label_at}
-use Rattle.cd_name.proofs.Steps.{label_step, end_within_later, root_gives}
+use Rattle.cd_name.proofs.Steps.{label_step, end_within_later, root_ends}
 use Rattle.cd_name.specs.Names.{IsName}
 use Rattle.cd_name.proofs.name_walk.walk.Goals as goal
 
 pub returns-in-Root-clause-read : goal.returns-in-Root-clause-read
 returns-in-Root-clause-read c =
-    let p = c.args.leads.now in
-    let labels = c.pieces.name.items in
     let i = c.pieces.invariant in
     let e = rw c.payload-payload.ensures at c.in-Root.ensures in (
-      root_gives p labels c.args.at c.pieces.start c.pieces.here c.pieces.next i.short i.reads e.1
-      ∙ ap (λ n. Ok (labels ++ 0 ∷ [], n)) (sym c.unwrap_or.ensures) ∙ ap (λ t. Ok (t, c.unwrap_or.result)) (sym c.push.ensures.items),
-      subst IsName (sym c.push.ensures.items) (labels_are_name labels i.are_labels i.short),
+      root_ends c.args.leads.now c.pieces.name.items _ c.args.at c.pieces.start c.pieces.here _ c.pieces.next i.short i.reads e.1 c.push.ensures.items c.unwrap_or.ensures,
+      subst IsName (sym c.push.ensures.items) (labels_are_name c.pieces.name.items i.are_labels i.short),
     )
 
 pub pieces-preserved-in-Label : goal.pieces-preserved-in-Label
