@@ -62,7 +62,7 @@ pub lookup_if_near : (r : Option ℕ) → ((offset : ℕ) → r ≡ Some offset 
 lookup_if_near None near = tt
 lookup_if_near (Some offset) near = near offset refl
 
--- the entries behind a key that is new
+-- the entries after a key that is new
 with_entry : (es new : List Entry) (name : List ℕ) (key : Vec ℕ Global) (offset : ℕ) → IsDistinct same_key (keys_of es) → key.items ≡ name →
     least_offset (map suffix_of es) name ≡ None → new ≡ insert_entry same_key es key offset → new ≡ es ++ (key, offset) ∷ []
 with_entry es new name key offset distinct is none h =
@@ -78,7 +78,7 @@ still_near (Ok _) es new name key offset distinct is none ok err near small =
     (All-cons (λ (e : Entry). e.1 < 16384) (key, offset) [] small (All-nil (λ (e : Entry). e.1 < 16384))))
 still_near (Err _) es new name key offset distinct is none ok err near small = subst (λ l. All (λ (e : Entry). e.1 < 16384) l) (sym err) near
 
--- what stands behind a suffix that is put in
+-- what stands after a suffix that is put in
 pub view_with_entry : (standing : List Suffix) (es new : List Entry) (name : List ℕ) (key : Vec ℕ Global) (offset : ℕ) → map suffix_of es ≡ standing → IsDistinct same_key (keys_of es) → key.items ≡ name →
     least_offset standing name ≡ None → offset < 16384 → new ≡ insert_entry same_key es key offset → map suffix_of new ≡ standing ++ suffix_at name offset
 view_with_entry standing es new name key offset view distinct is none small h =

@@ -28,7 +28,7 @@ pub end_within_later : (at here later size : ℕ) (next : Option ℕ) → here �
 end_within_later at here later size None h w = omega arith
 end_within_later at here later size (Some n) h w = w
 
--- a root behind labels that leave room for it ends the name
+-- a root after labels that leave room for it ends the name
 root_gives : (p labels : List ℕ) (at s here : ℕ) (next : Option ℕ) → length labels ≤ 254 →
     reading_at p at at ≡ label_then_reading labels (reading_with_end next (reading_at p s here)) → reading_at p s here ≡ root_reading (here + 1) →
     name_at p at ≡ Ok (labels ++ 0 ∷ [], unwrap_or next (here + 1))

@@ -12,7 +12,7 @@ GivesName (Ok r) read = read ≡ Ok r
 GivesName (Err (Bad why)) read = read ≡ Err why
 GivesName (Err NoMemory) read = Unit {0}
 
--- a call appends the name that is read and gives the offset behind it, unless memory ran out
+-- a call appends the name that is read and gives the offset after it, unless memory ran out
 abbrev pub AppendsName : List ℕ → List ℕ → Result ℕ NameFault → Result (List ℕ × ℕ) NameWhy → Type 0
 AppendsName old new (Ok next) read = (name : List ℕ) × (read ≡ Ok (name, next)) × (new ≡ old ++ name) × IsName name
 AppendsName old new (Err (Bad why)) read = read ≡ Err why

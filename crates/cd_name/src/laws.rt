@@ -5,7 +5,7 @@ ghost use Rattle.cd_name.specs.NameSizes.{NameSizesAreExact};
 ghost use Rattle.cd_name.specs.Rules.{ReadByRules, BrokenByRules, RulesGiveOne};
 ghost use Rattle.cd_name.specs.WrittenNames.{NamesAreWrittenByRule, WrittenNamesAreRead};
 
-/// A name is labels of 1 to 63 bytes, each behind its length byte, and the root, a byte 0, in at most 255 bytes
+/// A name is labels of 1 to 63 bytes, each after its length byte, and the root, a byte 0, in at most 255 bytes
 /// (RFC 1035 3.1).
 pub fn names_are_labels()
     ensures { NamesAreLabels }
@@ -22,7 +22,7 @@ pub fn plain_names_are_read()
     ensures names { NamesAreNames }
 {}
 
-/// What is read in a payload is read with more bytes behind it, and the first rule that is broken stays the first, unless it
+/// What is read in a payload is read with more bytes after it, and the first rule that is broken stays the first, unless it
 /// is that bytes are missing.
 pub fn names_stay()
     ensures read { NamesStay }
@@ -41,7 +41,7 @@ pub fn rules_give_one()
     ensures { RulesGiveOne }
 {}
 
-/// Labels are read before what stands behind them, and a pointer stands for the name at its target (RFC 1035 4.1.4).
+/// Labels are read before what stands after them, and a pointer stands for the name at its target (RFC 1035 4.1.4).
 pub fn pointers_are_followed()
     ensures labels { LabelsAreRead }
     ensures pointers { PointersAreFollowed }
@@ -53,7 +53,7 @@ pub fn names_are_written_by_rule()
     ensures { NamesAreWrittenByRule }
 {}
 
-/// A name that is written behind bytes in which suffixes stand is read as itself, and so are the suffixes that come to stand
+/// A name that is written after bytes in which suffixes stand is read as itself, and so are the suffixes that come to stand
 /// (RFC 1035 4.1.4).
 pub fn written_names_are_read()
     ensures { WrittenNamesAreRead }
