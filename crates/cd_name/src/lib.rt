@@ -18,6 +18,7 @@ mod label_run;
 mod law;
 mod list;
 mod name;
+mod name_reader;
 mod name_reading;
 #[cfg(test)]
 mod name_tests;
@@ -38,5 +39,6 @@ pub use law::{
 };
 pub use list::List;
 pub use name::{Name, fold, is_name, name_size};
+pub use name_reader::NameReader;
 pub use name_reading::{append_name, read_name};
 pub use name_writer::NameWriter;
