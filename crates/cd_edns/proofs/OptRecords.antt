@@ -101,7 +101,7 @@ with_opt_is_valid message opt none valid room short =
 top_byte : (e v f : ℕ) → v < 256 → f < 65536 → (e * 16777216 + v * 65536 + f) / 16777216 ≡ e
 top_byte e v f h k = omega arith
 
--- the byte behind it
+-- the byte after it
 next_byte : (e v f : ℕ) → v < 256 → f < 65536 → (e * 16777216 + v * 65536 + f) / 65536 % 256 ≡ v
 next_byte e v f h k = omega arith
 

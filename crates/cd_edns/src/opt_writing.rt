@@ -34,7 +34,7 @@ fn record_of_opt(opt: Opt) -> Result<Rr, AllocError>
     })
 }
 
-/// Adds an OPT record with these fields behind the additional records (RFC 6891 6.1.2, 6.1.3). For want of memory the message stays
+/// Adds an OPT record with these fields after the additional records (RFC 6891 6.1.2, 6.1.3). For want of memory the message stays
 /// as it was. The record is made with the allocator of the options. A valid message stays valid if it has room for one more record and
 /// the options have at most 65,535 bytes.
 pub fn put_opt(message: &mut Message, opt: Opt) -> Result<(), AllocError>

@@ -18,7 +18,7 @@ MessagesAreValid = (payload : List ℕ) (message : Message) (used : ℕ) → Are
 abbrev pub MessagesLieWithin : Type 0
 MessagesLieWithin = (payload : List ℕ) (message : Message) (used : ℕ) → Spells payload message used → (12 ≤ used) × (used ≤ length payload)
 
--- what a payload spells it spells with more bytes behind it
+-- what a payload spells it spells with more bytes after it
 abbrev pub MessagesStay : Type 0
 MessagesStay = (payload more : List ℕ) (message : Message) (used : ℕ) → Spells payload message used → Spells (payload ++ more) message used
 

@@ -6,19 +6,19 @@ ghost use Rattle.cd_message.specs.Shapes;
 pub struct Shape {
     pub before: usize,
     pub names: usize,
-    pub behind: usize,
+    pub after: usize,
     /// Whether the names are compressed where a message is written (RFC 3597 section 4).
     pub compressed: bool,
 }
 
 impl Shape {
-    fn new(before: usize, names: usize, behind: usize, compressed: bool) -> Shape
-        ensures { Some result ≡ Shapes.shape before names behind compressed }
+    fn new(before: usize, names: usize, after: usize, compressed: bool) -> Shape
+        ensures { Some result ≡ Shapes.shape before names after compressed }
     {
         Shape {
             before,
             names,
-            behind,
+            after,
             compressed,
         }
     }

@@ -90,19 +90,19 @@ fn expect_response(rt: &impl Abort, parsed: Result<Parsed, ParseFault>) {
 }
 
 /// Some bytes, and then some others.
-fn joined(alloc: Global, front: &[u8], behind: &[u8]) -> Result<Vec<u8>, AllocError> {
+fn joined(alloc: Global, front: &[u8], after: &[u8]) -> Result<Vec<u8>, AllocError> {
     let mut bytes = Vec::from_slice(alloc, front)?;
-    bytes.extend_from_slice(behind)?;
+    bytes.extend_from_slice(after)?;
     Ok(bytes)
 }
 
-/// What may stand behind a message, which takes none of it.
-const BEHIND: [&[u8]; 4] = [b"", b"\x00", b"\xff", b"\xc0\xff"];
+/// What may stand after a message, which takes none of it.
+const AFTER: [&[u8]; 4] = [b"", b"\x00", b"\xff", b"\xc0\xff"];
 
 #[test]
 fn a_query_is_read(rt: HostRuntime) -> Result<(), AllocError> {
-    for behind in BEHIND {
-        let payload = joined(rt.alloc(), QUERY, behind)?;
+    for after in AFTER {
+        let payload = joined(rt.alloc(), QUERY, after)?;
         expect_query(&rt, parse(rt.alloc(), &payload));
     }
     Ok(())
@@ -110,8 +110,8 @@ fn a_query_is_read(rt: HostRuntime) -> Result<(), AllocError> {
 
 #[test]
 fn a_response_is_read(rt: HostRuntime) -> Result<(), AllocError> {
-    for behind in BEHIND {
-        let payload = joined(rt.alloc(), RESPONSE, behind)?;
+    for after in AFTER {
+        let payload = joined(rt.alloc(), RESPONSE, after)?;
         expect_response(&rt, parse(rt.alloc(), &payload));
     }
     Ok(())
@@ -148,7 +148,7 @@ const BROKEN: [(&[u8], MsgWhy); 17] = [
         b"\x00\x07\x01\x00\x00\x00\x00\x00\x00\x00\x00",
         MsgWhy::Short,
     ),
-    // 65,535 entries in each section, and no bytes behind the header
+    // 65,535 entries in each section, and no bytes after the header
     (
         b"\x00\x07\x01\x00\xff\xff\xff\xff\xff\xff\xff\xff",
         MsgWhy::Short,
@@ -202,17 +202,17 @@ const BROKEN: [(&[u8], MsgWhy); 17] = [
 \x00\x00\x29\x04\xd0\x00\x00\x00\x00\x00\x01",
         MsgWhy::Opt,
     ),
-    // a pointer to a label that goes on behind the payload
+    // a pointer to a label that goes on after the payload
     (
         b"\x1f\x2b\x01\x00\x00\x01\x00\x00\x00\x00\x00\x00\xc0\x00\x00\x01\x00\x01",
         MsgWhy::Short,
     ),
-    // an NS record whose label would go on behind the RDATA, with the bytes there
+    // an NS record whose label would go on after the RDATA, with the bytes there
     (
         b"\x00\x07\x01\x00\x00\x00\x00\x01\x00\x00\x00\x00\x00\x00\x02\x00\x01\x00\x00\x00\x00\x00\x02\x02aa\x00",
         MsgWhy::Shape,
     ),
-    // the same with no bytes behind the RDATA, and with RDATA that is cut off
+    // the same with no bytes after the RDATA, and with RDATA that is cut off
     (
         b"\x00\x07\x01\x00\x00\x00\x00\x01\x00\x00\x00\x00\x00\x00\x02\x00\x01\x00\x00\x00\x00\x00\x01\x01",
         MsgWhy::Shape,
@@ -230,14 +230,14 @@ fn the_first_rule_broken_is_told(rt: HostRuntime) {
     }
 }
 
-/// A message with one answer, of which the type and all behind it are given.
-fn message_with_answer(alloc: Global, behind_owner: &[u8]) -> Result<Vec<u8>, AllocError> {
-    joined(alloc, ANSWER, behind_owner)
+/// A message with one answer, of which the type and all after it are given.
+fn message_with_answer(alloc: Global, after_owner: &[u8]) -> Result<Vec<u8>, AllocError> {
+    joined(alloc, ANSWER, after_owner)
 }
 
-/// Answers behind their owner, and the rule that each breaks first.
+/// Answers after their owner, and the rule that each breaks first.
 const OUT_OF_SHAPE: [(&[u8], MsgWhy); 8] = [
-    // SOA with 19 and with 21 bytes behind its names
+    // SOA with 19 and with 21 bytes after its names
     (
         b"\x00\x06\x00\x01\x00\x00\x00\x00\x00\x15\x00\x00\0\0\0\0\0\0\0\0\0\0\0\0\0\0\0\0\0\0\0",
         MsgWhy::Shape,
@@ -246,7 +246,7 @@ const OUT_OF_SHAPE: [(&[u8], MsgWhy); 8] = [
         b"\x00\x06\x00\x01\x00\x00\x00\x00\x00\x17\x00\x00\0\0\0\0\0\0\0\0\0\0\0\0\0\0\0\0\0\0\0\0\0",
         MsgWhy::Shape,
     ),
-    // SOA whose RDATA ends behind its first name
+    // SOA whose RDATA ends after its first name
     (
         b"\x00\x06\x00\x01\x00\x00\x00\x00\x00\x02\xc0\x0c\x00",
         MsgWhy::Shape,
@@ -277,8 +277,8 @@ const OUT_OF_SHAPE: [(&[u8], MsgWhy); 8] = [
 
 #[test]
 fn rdata_out_of_shape(rt: HostRuntime) -> Result<(), AllocError> {
-    for (behind_owner, why) in OUT_OF_SHAPE {
-        let payload = message_with_answer(rt.alloc(), behind_owner)?;
+    for (after_owner, why) in OUT_OF_SHAPE {
+        let payload = message_with_answer(rt.alloc(), after_owner)?;
         assert_eq!(rt; why_of(parse(rt.alloc(), &payload)), Some(why));
     }
     Ok(())
@@ -295,7 +295,7 @@ fn answer_has_rdata(parsed: Result<Parsed, ParseFault>, rdata: &[u8]) -> bool {
     }
 }
 
-/// Answers behind their owner, and the RDATA that each has.
+/// Answers after their owner, and the RDATA that each has.
 const NAMES_IN_RDATA: [(&[u8], &[u8]); 7] = [
     // CNAME
     (
@@ -332,8 +332,8 @@ const NAMES_IN_RDATA: [(&[u8], &[u8]); 7] = [
 
 #[test]
 fn names_in_rdata_are_kept_without_pointers(rt: HostRuntime) -> Result<(), AllocError> {
-    for (behind_owner, rdata) in NAMES_IN_RDATA {
-        let payload = message_with_answer(rt.alloc(), behind_owner)?;
+    for (after_owner, rdata) in NAMES_IN_RDATA {
+        let payload = message_with_answer(rt.alloc(), after_owner)?;
         assert!(rt; answer_has_rdata(parse(rt.alloc(), &payload), rdata));
     }
     Ok(())
@@ -348,7 +348,7 @@ fn used_of(parsed: Result<Parsed, ParseFault>) -> usize {
 }
 
 #[test]
-fn a_later_run_may_reach_behind_the_message(rt: HostRuntime) {
+fn a_later_run_may_reach_after_the_message(rt: HostRuntime) {
     let payload =
         b"\x1f\x2b\x01\x00\x00\x01\x00\x00\x00\x00\x00\x00\xc0\x00\x00\x01\x00\x01xxxxxxxxxxxxxx\x00";
     assert_eq!(rt; used_of(parse(rt.alloc(), payload)), 18);
@@ -367,7 +367,7 @@ fn zeros(alloc: Global, count: usize) -> Result<Vec<u8>, AllocError> {
 }
 
 #[test]
-fn bytes_behind_a_header_are_left(rt: HostRuntime) -> Result<(), AllocError> {
+fn bytes_after_a_header_are_left(rt: HostRuntime) -> Result<(), AllocError> {
     let largest = zeros(rt.alloc(), 65535)?;
     assert_eq!(rt; used_of(parse(rt.alloc(), &largest)), 12);
     Ok(())
@@ -412,12 +412,12 @@ fn answer_of_labels(alloc: Global, rdata_size: u16) -> Result<Vec<u8>, AllocErro
 
 /// Where RDATA ends among four labels of 63 bytes, and the rule that is broken first.
 const LONG_NAMES_IN_RDATA: [(u16, MsgWhy); 6] = [
-    // behind the payload
+    // after the payload
     (258, MsgWhy::Short),
-    // behind the root, and before it
+    // after the root, and before it
     (257, MsgWhy::LongName),
     (256, MsgWhy::LongName),
-    // in the fourth label, behind its length byte, and before it
+    // in the fourth label, after its length byte, and before it
     (255, MsgWhy::Shape),
     (193, MsgWhy::Shape),
     (192, MsgWhy::Shape),

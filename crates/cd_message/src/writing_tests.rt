@@ -159,7 +159,7 @@ fn with_answer_type(message: Message, rtype: u16) -> Message {
     }
 }
 
-/// RDATA that does not fill the shape of a type: MX with a pointer and with a byte too many, SOA with no number behind its names, and NS
+/// RDATA that does not fill the shape of a type: MX with a pointer and with a byte too many, SOA with no number after its names, and NS
 /// with a label of 64 bytes and with a name that has no root.
 const OUT_OF_SHAPE: [(u16, &[u8]); 5] = [
     (15, b"\x00\x0a\xc0\x0c"),
