@@ -13,7 +13,7 @@ use crate::shape::{Shape, shape_of};
 use crate::writing::{WriteFault, Writing};
 use cd_name::name_size;
 
-/// RDATA in its parts: bytes, names without pointers and bytes.
+// RDATA in its parts: bytes, names without pointers and bytes.
 #[derive(Clone, Copy)]
 pub struct Parts<'a> {
     pub before: &'a [u8],
@@ -21,7 +21,7 @@ pub struct Parts<'a> {
     pub after: &'a [u8],
 }
 
-/// The number of bytes of so many names without pointers, one after the other, that some bytes begin with.
+// The number of bytes of so many names without pointers, one after the other, that some bytes begin with.
 fn names_size(bytes: &[u8], count: usize) -> Option<usize>
     ensures { AreNamesInFront count bytes.now result }
 {
@@ -35,7 +35,7 @@ fn names_size(bytes: &[u8], count: usize) -> Option<usize>
     Some(end)
 }
 
-/// The parts of RDATA that fills a shape.
+// The parts of RDATA that fills a shape.
 fn parts_of_shape<'a>(shape: Shape, rdata: &'a [u8]) -> Option<Parts<'a>>
     ensures { ArePartsOf (Written.parts_of_shape shape rdata.now) result }
 {
@@ -54,7 +54,7 @@ fn parts_of_shape<'a>(shape: Shape, rdata: &'a [u8]) -> Option<Parts<'a>>
     })
 }
 
-/// The parts of RDATA of a type, if it fills a shape whose names are compressed.
+// The parts of RDATA of a type, if it fills a shape whose names are compressed.
 fn compressed_parts<'a>(rtype: u16, rdata: &'a [u8]) -> Option<Parts<'a>>
     ensures { ArePartsOf (Written.compressed_parts (Shapes.shape_of rtype) rdata.now) result }
 {
@@ -71,7 +71,7 @@ fn compressed_parts<'a>(rtype: u16, rdata: &'a [u8]) -> Option<Parts<'a>>
 }
 
 impl Writing {
-    /// Appends names that stand one after the other without pointers.
+    // Appends names that stand one after the other without pointers.
     fn put_names(&mut self, names: &[u8]) -> Result<(), WriteFault>
         requires { length self.old.bytes ≤ 65535 }
         ensures { (list : List (List ℕ)) → All IsName list → names.now ≡ concat list → Puts (each_in_turn name_piece list) self.old self.new result }
@@ -85,7 +85,7 @@ impl Writing {
         Ok(())
     }
 
-    /// Appends the RDATA of a type.
+    // Appends the RDATA of a type.
     fn put_rdata(&mut self, rtype: u16, rdata: &[u8]) -> Result<(), WriteFault>
         ensures { Puts (rdata_piece rtype rdata.now) self.old self.new result }
     {
@@ -99,7 +99,7 @@ impl Writing {
         }
     }
 
-    /// Appends the RDATA of a type after its length.
+    // Appends the RDATA of a type after its length.
     pub(crate) fn put_rdata_with_length(
         &mut self,
         rtype: u16,
