@@ -34,16 +34,16 @@ rdata_why_of name.Label = Label
 rdata_why_of name.Pointer = Pointer
 rdata_why_of name.LongName = LongName
 
--- a name and the offset behind it, or the rule of messages that is broken
+-- a name and the offset after it, or the rule of messages that is broken
 abbrev pub name_reading : (NameWhy → MsgWhy) → Result (List ℕ × ℕ) NameWhy → Result (List ℕ × ℕ) MsgWhy
 name_reading told (Ok x) = Ok x
 name_reading told (Err why) = Err (told why)
 
--- the name at an offset, and the offset behind it
+-- the name at an offset, and the offset after it
 unfoldable pub name_in : List ℕ → ℕ → Result (List ℕ × ℕ) MsgWhy
 name_in payload at = name_reading why_of (name_at payload at)
 
--- the question at an offset, and the offset behind it: a name, a type and a class (RFC 1035 4.1.2)
+-- the question at an offset, and the offset after it: a name, a type and a class (RFC 1035 4.1.2)
 unfoldable pub question_at : List ℕ → ℕ → Result (Question × ℕ) MsgWhy
 question_at payload at = do
   name ← name_in payload at
@@ -55,7 +55,7 @@ unfoldable pub rdata_name : List ℕ → ℕ → ℕ → Result (List ℕ × ℕ
 rdata_name payload end at =
     if run_is_cut (take end payload) at then name_reading rdata_why_of (name_at (take end payload) at) else name_in payload at
 
--- the bytes of so many names, one behind the other, without pointers, and the offset behind them
+-- the bytes of so many names, one after the other, without pointers, and the offset after them
 unfoldable pub rdata_names : List ℕ → ℕ → ℕ → ℕ → Result (List ℕ × ℕ) MsgWhy
 rdata_names payload end count at = do
   names ← repeat (rdata_name payload end) count at
@@ -68,8 +68,8 @@ rdata_of_shape (Some s) payload at end =
     if nat_lt end (at + s.before) then Err Shape
     else (do
       names ← rdata_names payload end s.names (at + s.before)
-      if nat_eq (names.1 + s.behind) end
-          then Ok (bytes_at payload at s.before ++ names.0 ++ bytes_at payload names.1 s.behind)
+      if nat_eq (names.1 + s.after) end
+          then Ok (bytes_at payload at s.before ++ names.0 ++ bytes_at payload names.1 s.after)
           else Err Shape)
 
 -- the RDATA of a type between two offsets; it may be empty whatever its type
@@ -80,9 +80,9 @@ rdata_at rtype payload at end = if nat_eq at end then Ok [] else rdata_of_shape 
 abbrev pub breaks_opt_rule : Bool → ℕ → List ℕ → Bool
 breaks_opt_rule opt_allowed rtype owner = nat_eq rtype OPT && (if opt_allowed then nat_lt 1 (length owner) else true)
 
--- The record whose owner ends at an offset, and the offset behind it: type, class, TTL, the length of the RDATA and the RDATA (RFC 1035 4.1.3).
-unfoldable pub record_behind_owner : List ℕ → Bool → List ℕ → ℕ → Result (Rr × ℕ) MsgWhy
-record_behind_owner payload opt_allowed owner at =
+-- The record whose owner ends at an offset, and the offset after it: type, class, TTL, the length of the RDATA and the RDATA (RFC 1035 4.1.3).
+unfoldable pub record_after_owner : List ℕ → Bool → List ℕ → ℕ → Result (Rr × ℕ) MsgWhy
+record_after_owner payload opt_allowed owner at =
     let rtype : ℕ = be16 at payload in
     let start : ℕ = at + 10 in
     let end : ℕ = start + be16 (at + 8) payload in
@@ -96,23 +96,23 @@ record_behind_owner payload opt_allowed owner at =
         end,
       ))))
 
--- the record at an offset, where an OPT record is allowed or not, and the offset behind it
+-- the record at an offset, where an OPT record is allowed or not, and the offset after it
 unfoldable pub record_at : List ℕ → Bool → ℕ → Result (Rr × ℕ) MsgWhy
 record_at payload opt_allowed at = do
   owner ← name_in payload at
-  record_behind_owner payload opt_allowed owner.0 owner.1
+  record_after_owner payload opt_allowed owner.0 owner.1
 
--- whether an OPT record is allowed behind a record: behind an OPT record no second one is
-abbrev pub opt_allowed_behind : Bool → Rr → Bool
-opt_allowed_behind opt_allowed r = opt_allowed && not (is_opt r)
+-- whether an OPT record is allowed after a record: after an OPT record no second one is
+abbrev pub opt_allowed_after : Bool → Rr → Bool
+opt_allowed_after opt_allowed r = opt_allowed && not (is_opt r)
 
--- the record at an offset, and behind it the offset and whether an OPT record is allowed there
+-- the record at an offset, and after it the offset and whether an OPT record is allowed there
 abbrev pub record_step : List ℕ → ℕ × Bool → Result (Rr × (ℕ × Bool)) MsgWhy
 record_step payload place = do
   r ← record_at payload place.1 place.0
-  Ok (r.0, (r.1, opt_allowed_behind place.1 r.0))
+  Ok (r.0, (r.1, opt_allowed_after place.1 r.0))
 
--- so many records from an offset on, where an OPT record is allowed or not, and the offset behind them
+-- so many records from an offset on, where an OPT record is allowed or not, and the offset after them
 abbrev pub records_at : List ℕ → ℕ → Bool → ℕ → Result (List Rr × ℕ) MsgWhy
 records_at payload count opt_allowed at = do
   records ← repeat (record_step payload) count (at, opt_allowed)

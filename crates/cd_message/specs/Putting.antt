@@ -24,7 +24,7 @@ AreNamesInFront count bytes (Some size) = (names : List (List ℕ)) × (names_in
 -- slices are the parts of RDATA, if there are parts
 abbrev pub ArePartsOf : Option RdataParts → Option Parts → Type 0
 ArePartsOf parts None = parts ≡ None
-ArePartsOf parts (Some found) = (names : List (List ℕ)) × (parts ≡ Some (record { before = found.before.now; names = names; behind = found.behind.now })) × (found.names.now ≡ concat names) × All IsName names
+ArePartsOf parts (Some found) = (names : List (List ℕ)) × (parts ≡ Some (record { before = found.before.now; names = names; after = found.after.now })) × (found.names.now ≡ concat names) × All IsName names
 
 -- the sections of a message have at most 65,535 entries each
 pub record FewEntries (m : Message) : Type 0 where

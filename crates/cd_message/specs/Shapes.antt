@@ -4,7 +4,7 @@ use Rattle.cd_message.specs.declared.shape.Shape.{Shape}
 
 -- bytes, names and bytes; a message that is written compresses the names or not
 abbrev pub shape : ℕ → ℕ → ℕ → Bool → Option Shape
-shape before names behind compressed = Some (record { before = before; names = names; behind = behind; compressed = compressed })
+shape before names after compressed = Some (record { before = before; names = names; after = after; compressed = compressed })
 
 -- NS, MD, MF, CNAME, MB, MG, MR and PTR hold one name (RFC 1035 3.3)
 abbrev pub holds_name : ℕ → Bool

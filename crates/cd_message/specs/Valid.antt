@@ -12,12 +12,12 @@ use Rattle.cd_message.specs.Shapes.{shape_of}
 pub record FillsShape (s : Shape) (rdata : List ℕ) : Type 0 where
   pub before : List ℕ
   pub names : List (List ℕ)
-  pub behind : List ℕ
+  pub after : List ℕ
   pub before_size : length before ≡ s.before
   pub names_count : length names ≡ s.names
-  pub behind_size : length behind ≡ s.behind
+  pub after_size : length after ≡ s.after
   pub are_names : All IsName names
-  pub is_all : rdata ≡ before ++ concat names ++ behind
+  pub is_all : rdata ≡ before ++ concat names ++ after
 
 -- RDATA of a type with no shape is any bytes; else it is empty or fills the shape
 abbrev pub KeepsShape : Option Shape → List ℕ → Type 0

@@ -67,8 +67,8 @@ pub struct Message {
     pub additional: List<Rr>,
 }
 
-/// A message and the number of bytes of the payload that it takes. No section goes on behind them, but a run of labels that a pointer
-/// leads to may reach into the bytes behind them.
+/// A message and the number of bytes of the payload that it takes. No section goes on after them, but a run of labels that a pointer
+/// leads to may reach into the bytes after them.
 #[derive(Debug, Drop)]
 pub struct Parsed {
     pub message: Message,

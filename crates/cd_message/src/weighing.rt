@@ -7,7 +7,7 @@ ghost use Rattle.cd_message.specs.Weights.{question_weight, record_weight, weigh
 
 use crate::message::{Message, Question, Rr};
 
-/// The weight of some questions.
+// The weight of some questions.
 fn questions_weight(questions: &[Question]) -> u64
     requires { length questions.now ≤ 65535 }
     ensures exact { result ≡ sum_by question_weight questions.now }
@@ -20,7 +20,7 @@ fn questions_weight(questions: &[Question]) -> u64
     total
 }
 
-/// The weight of some records.
+// The weight of some records.
 fn records_weight(records: &[Rr]) -> u64
     requires few { length records.now ≤ 65535 }
     requires valid { All ValidRecord records.now }
