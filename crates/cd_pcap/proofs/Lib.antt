@@ -1,3 +1,7 @@
+pub mod Records
+pub mod Going
+pub mod Extending
+pub mod Spelled
 pub mod Fronts
 pub mod Marks
 pub mod Refusals
