@@ -1,5 +1,5 @@
 -- Numbers at an offset.
-use Rattle.std.proofs.Common.{◌≡◌, ℕ, ◌+◌, ◌^◌, ◌<◌, ◌≤◌, List, [], ◌∷◌, ◌++◌, length, take, drop, All, refl, arith}
+use Rattle.std.proofs.Common.{◌≡◌, ◌∙◌, ℕ, ◌+◌, ◌^◌, ◌<◌, ◌≤◌, List, [], ◌∷◌, ◌++◌, length, take, drop, slice_index, All, ap, refl, arith}
 use Rattle.std.specs.Int.{w16, w32}
 use Rattle.std.proofs.lemmas.List.{get_or_append_left, get_or-drop}
 use Rattle.std.proofs.lemmas.List.Elements.{All-take}
@@ -55,17 +55,39 @@ pub number32_at-append : (order : Order) (at : ℕ) (xs ys : List ℕ) → at + 
 number32_at-append Big at xs ys h = be32-append at xs ys h
 number32_at-append Little at xs ys h = le32-append at xs ys h
 
+-- The byte at an offset is the first from there on.
+pub first_byte : (at : ℕ) (bytes : List ℕ) → slice_index (drop at bytes) 0 ≡ slice_index bytes at
+first_byte at bytes =
+    let place : at + 0 ≡ at = omega arith in
+    get_or-drop at bytes 0 0 ∙ ap (λ n. slice_index bytes n) place
+
 -- Two bytes at an offset are the first from there on.
 pub number16_at-drop : (order : Order) (at : ℕ) (bytes : List ℕ) → number16_at order at bytes ≡ number16_at order 0 (drop at bytes)
 unfolding be16 le16
-number16_at-drop Big at bytes = let byte = get_or-drop at bytes in omega (arith, byte 0 0, byte 1 0)
-number16_at-drop Little at bytes = let byte = get_or-drop at bytes in omega (arith, byte 0 0, byte 1 0)
+number16_at-drop Big at bytes =
+    let a : slice_index (drop at bytes) 0 ≡ slice_index bytes at = first_byte at bytes in
+    let b : slice_index (drop at bytes) (0 + 1) ≡ slice_index bytes (at + 1) = get_or-drop at bytes 1 0 in
+    omega (arith, a, b)
+number16_at-drop Little at bytes =
+    let a : slice_index (drop at bytes) 0 ≡ slice_index bytes at = first_byte at bytes in
+    let b : slice_index (drop at bytes) (0 + 1) ≡ slice_index bytes (at + 1) = get_or-drop at bytes 1 0 in
+    omega (arith, a, b)
 
 -- Four bytes are.
 pub number32_at-drop : (order : Order) (at : ℕ) (bytes : List ℕ) → number32_at order at bytes ≡ number32_at order 0 (drop at bytes)
 unfolding be32 le32
-number32_at-drop Big at bytes = let byte = get_or-drop at bytes in omega (arith, byte 0 0, byte 1 0, byte 2 0, byte 3 0)
-number32_at-drop Little at bytes = let byte = get_or-drop at bytes in omega (arith, byte 0 0, byte 1 0, byte 2 0, byte 3 0)
+number32_at-drop Big at bytes =
+    let a : slice_index (drop at bytes) 0 ≡ slice_index bytes at = first_byte at bytes in
+    let b : slice_index (drop at bytes) (0 + 1) ≡ slice_index bytes (at + 1) = get_or-drop at bytes 1 0 in
+    let c : slice_index (drop at bytes) (0 + 2) ≡ slice_index bytes (at + 2) = get_or-drop at bytes 2 0 in
+    let d : slice_index (drop at bytes) (0 + 3) ≡ slice_index bytes (at + 3) = get_or-drop at bytes 3 0 in
+    omega (arith, a, b, c, d)
+number32_at-drop Little at bytes =
+    let a : slice_index (drop at bytes) 0 ≡ slice_index bytes at = first_byte at bytes in
+    let b : slice_index (drop at bytes) (0 + 1) ≡ slice_index bytes (at + 1) = get_or-drop at bytes 1 0 in
+    let c : slice_index (drop at bytes) (0 + 2) ≡ slice_index bytes (at + 2) = get_or-drop at bytes 2 0 in
+    let d : slice_index (drop at bytes) (0 + 3) ≡ slice_index bytes (at + 3) = get_or-drop at bytes 3 0 in
+    omega (arith, a, b, c, d)
 
 -- The number of two bytes has 16 bits, and is written as they are.
 pub number16-small : (order : Order) (bytes : List ℕ) → All (λ byte. byte < 256) bytes → number16_at order 0 bytes < 2 ^ 16
