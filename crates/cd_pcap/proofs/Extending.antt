@@ -3,12 +3,9 @@ use Rattle.std.proofs.Common.{◌≡◌, ℕ, zero, suc, ◌+◌, ◌*◌, ◌<�
 use Rattle.std.proofs.lemmas.Bool.{cases_lt, cases_eq, cases_Bool}
 use Rattle.std.proofs.lemmas.List.{length-drop}
 use Rattle.cd_bytes.proofs.Offsets.{le16-append, number32_at-append}
-use Rattle.cd_packet.specs.Capture.{Capture, ends, refused_capture, after, IsWholeOrCut, Grows}
+use Rattle.cd_packet.specs.Capture.{Capture, ends, after, IsWholeOrCut, Grows}
 use Rattle.cd_pcap.specs.Pcap.{Form, little_micros, version, link_type, captured_length, is_little_micro, packet_at, records, pcap}
-use Rattle.cd_packet.specs.declared.packet.Packet.{Packet}
 use Rattle.cd_packet.specs.declared.capture.EndState.{EndState}
-use Rattle.cd_packet.specs.declared.capture.EndState.TheVariants.{Whole, Cut}
-use Rattle.cd_packet.specs.declared.capture.CaptureWhy.{CaptureWhy}
 use Rattle.cd_packet.specs.declared.capture.CaptureWhy.TheVariants.{Magic, Version, Record}
 use Rattle.cd_pcap.proofs.Records.{records-short, records-refused, records-cut, records-first, pcap-magic, pcap-short, pcap-version, pcap-records}
 use Rattle.cd_packet.proofs.Growing.{has_magic-append, grows_at, grows_whole, grows_cut, grows_refused, grows_after}

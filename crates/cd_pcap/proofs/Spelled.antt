@@ -1,6 +1,6 @@
 -- A record that is spelled is read as the packet that it means.
 use Rattle.std.proofs.Common.{◌≡◌, ℕ, ◌+◌, ◌^◌, ◌<◌, List, [], ◌∷◌, ◌++◌, length, take, drop, refl, ap, sym, ◌∙◌, arith, append_assoc, length-append}
-use Rattle.std.specs.Int.{w32, to_be_bytes, to_le_bytes}
+use Rattle.std.specs.Int.{w32}
 use Rattle.std.proofs.lemmas.List.{take_at, drop_at, drop-drop}
 use Rattle.std.proofs.lemmas.Nat.{from_le_bytes-to_le_bytes_4, from_be_bytes-to_be_bytes_4}
 use Rattle.cd_bytes.specs.Numbers.{be32, le32, bytes_of, number32_at}
@@ -8,13 +8,13 @@ use Rattle.cd_bytes.specs.declared.order.Order.{Order}
 use Rattle.cd_bytes.specs.declared.order.Order.TheVariants.{Big, Little}
 use Rattle.cd_packet.specs.Capture.{after}
 use Rattle.cd_pcap.specs.Pcap.{Form, records, packet_of_parts, captured_length, packet_at}
-use Rattle.cd_pcap.specs.Spelled.{RawRecord, Fits, record_header, spelling_of, packet_of_raw}
+use Rattle.cd_pcap.specs.Spelled.{RawRecord, record_header, spelling_of, packet_of_raw}
 use Rattle.cd_pcap.specs.Laws.{RecordsAreRead}
 use Rattle.cd_pcap.proofs.Records.{records-whole}
 
 -- sixteen bytes of four numbers, and what follows them
 abbrev pub four : Order → ℕ → ℕ → ℕ → ℕ → List ℕ → List ℕ
-four order a b c d more = bytes_of w32 order a ++ bytes_of w32 order b ++ bytes_of w32 order c ++ bytes_of w32 order d ++ more
+four order a b c d more = bytes_of w32 order a ++ (bytes_of w32 order b ++ (bytes_of w32 order c ++ (bytes_of w32 order d ++ more)))
 
 -- each of the four numbers is read again
 pub first : (order : Order) (a b c d : ℕ) (more : List ℕ) → a < 2 ^ 32 → number32_at order 0 (four order a b c d more) ≡ a
@@ -43,8 +43,8 @@ after_four Big a b c d more = refl
 after_four Little a b c d more = refl
 
 pub four_long : (order : Order) (a b c d : ℕ) (more : List ℕ) → length (four order a b c d more) ≡ 16 + length more
-four_long Big a b c d more = refl
-four_long Little a b c d more = refl
+four_long Big a b c d more = omega arith
+four_long Little a b c d more = omega arith
 
 -- a record's header, and what follows it
 pub header_four : (form : Form) (a b c d : ℕ) (more : List ℕ) → record_header form a b c d ++ more ≡ four form.order a b c d more

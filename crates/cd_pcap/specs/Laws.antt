@@ -14,7 +14,7 @@ ReadIsSpelled = (bytes : List ℕ) → All (λ byte. byte < 256) bytes → Spell
 
 -- What some bytes spell is what is read of them, so they spell one capture.
 abbrev pub SpelledIsRead : Type 0
-SpelledIsRead = (bytes : List ℕ) (c : Capture) → Spells bytes c → pcap bytes ≡ c
+SpelledIsRead = (bytes : List ℕ) (c : Capture) → All (λ byte. byte < 256) bytes → Spells bytes c → pcap bytes ≡ c
 
 -- Any record that fits, spelled in any form, and then any bytes, is read as the packet that it means, and then what those bytes hold.
 abbrev pub RecordsAreRead : Type 0

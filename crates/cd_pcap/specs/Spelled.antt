@@ -1,5 +1,5 @@
 -- A pcap capture as it is spelled: a header, records and what stands after them (the pcap draft, 4 and 5).
-use Rattle.std.specs.Prelude.{◌≡◌, ℕ, ◌+◌, ◌%◌, ◌^◌, ◌<◌, ◌≤◌, ⊥, ◌⊎◌, nat_eq, List, [], ◌∷◌, ◌++◌, length, if◌then◌else◌}
+use Rattle.std.specs.Prelude.{◌≡◌, ℕ, ◌+◌, ◌%◌, ◌^◌, ◌<◌, ◌≤◌, ◌⊎◌, nat_eq, List, [], ◌∷◌, ◌++◌, length, if◌then◌else◌}
 use Rattle.std.specs.Int.{w16, w32}
 use Rattle.std.specs.List.{AllByRecursion}
 use Rattle.cd_bytes.specs.Numbers.{bytes_of}
