@@ -1,5 +1,5 @@
 use Rattle.cd_message.proofs.MessagesByRules.{spelled_by_rules, broken_by_rules}
-use Rattle.cd_message.proofs.law.messages_follow_the_rules.Goals as goal
+use Rattle.cd_message.proofs.laws.messages_follow_the_rules.Goals as goal
 
 pub returns-clause-spelled : goal.returns-clause-spelled
 returns-clause-spelled c = spelled_by_rules

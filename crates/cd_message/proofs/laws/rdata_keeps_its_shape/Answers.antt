@@ -1,5 +1,5 @@
 use Rattle.cd_message.proofs.RdataShapes.{rdata_keeps_shape, shaped_rdata_is_itself}
-use Rattle.cd_message.proofs.law.rdata_keeps_its_shape.Goals as goal
+use Rattle.cd_message.proofs.laws.rdata_keeps_its_shape.Goals as goal
 
 pub returns-clause-shape : goal.returns-clause-shape
 returns-clause-shape c = rdata_keeps_shape

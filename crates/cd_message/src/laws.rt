@@ -1,6 +1,6 @@
 //! Laws of messages that are read and written, each the contract of a function that does nothing.
 
-ghost use Rattle.cd_message.specs.MessageLaws.{MessagesAreValid, MessagesLieWithin, MessagesStay, ReadMessagesAreLight, RdataKeepsShape, ShapedRdataIsItself};
+ghost use Rattle.cd_message.specs.MessageLaws.{MessagesAreValid, MessagesLieWithin, MessagesStay, MessageWeightsAreLinear, ReadMessagesAreLight, RdataKeepsShape, ShapedRdataIsItself};
 ghost use Rattle.cd_message.specs.Rules.{SpelledByRules, BrokenByRules, RulesGiveOne};
 ghost use Rattle.cd_message.specs.WrittenLaws.{PartsFillShapes, WrittenMessagesAreRead};
 
@@ -17,6 +17,11 @@ pub fn messages_lie_within()
 /// What a payload spells it spells with more bytes behind it, in as many bytes.
 pub fn messages_stay()
     ensures { MessagesStay }
+{}
+
+/// A message that is read weighs at most 829 sixteenths of its bytes, however its names are compressed.
+pub fn message_weights_are_linear()
+    ensures { MessageWeightsAreLinear }
 {}
 
 /// A message that is read from at most 65,535 bytes weighs at most 3,400,000, however its names are compressed.
