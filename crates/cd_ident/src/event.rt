@@ -1,5 +1,6 @@
 ghost use Rattle.std.specs.Prelude.{◌≡◌, ◌<◌, ◌≤◌};
 ghost use Rattle.cd_packet.specs.Time.{end_of_time};
+ghost use Rattle.cd_pairing.specs.declared.keyed.TheConstants.{LEAST_WEIGHT};
 ghost use Rattle.cd_ident.specs.Bodies.{HasBody, HasBody-prop};
 ghost use Rattle.cd_ident.specs.Identifiers.{transport_of};
 
@@ -64,5 +65,6 @@ pub struct Event {
     pub ghost timely: { time < end_of_time },
     pub ghost one_version: { client.v6 ≡ server.v6 },
     pub ghost small_transport: { transport_of ids ≤ 15 },
+    pub ghost heavy: { LEAST_WEIGHT ≤ weight },
     pub ghost has_body: { HasBody kind body } by { HasBody-prop kind body },
 }

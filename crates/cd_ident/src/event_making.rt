@@ -2,6 +2,7 @@
 
 ghost use Rattle.std.specs.Prelude.{◌≡◌, ◌≤◌, length, IfOk};
 ghost use Rattle.cd_message.specs.Valid.{Valid};
+ghost use Rattle.cd_pairing.specs.declared.keyed.TheConstants.{LEAST_WEIGHT as least_weight};
 ghost use Rattle.cd_ident.specs.Bodies.{HasBody};
 ghost use Rattle.cd_ident.specs.Datagrams.{datagram_of};
 ghost use Rattle.cd_ident.specs.Events.{event_parts, malformed_parts, message_parts, parts_of_payload};
@@ -48,6 +49,7 @@ fn event_between(
     requires one_version { ends.client.v6 ≡ ends.server.v6 }
     requires fits { length dgram.now.payload.now ≤ 65535 }
     requires small_transport { transport_of ids ≤ 15 }
+    requires heavy { least_weight ≤ weight }
     requires has_body { HasBody kind body }
     ensures { parts_of result ≡ parts_of_payload (datagram_of dgram.now) (kept_ends ends) kind trailing ids weight body }
 {

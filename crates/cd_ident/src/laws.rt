@@ -1,7 +1,7 @@
 //! Laws of events and their identifiers, each the contract of a function that does nothing.
 
 ghost use Rattle.cd_ident.specs.IdentifierLaws.{PrimariesAreExact, SecondariesAreExact, ResponsesHaveThePrimary};
-ghost use Rattle.cd_ident.specs.EventWeights.{EventWeightsAreBounded, EventWeightsAreLinear, SumsOfWeightsAreLinear};
+ghost use Rattle.cd_ident.specs.EventWeights.{EventWeightsAreBounded, EventWeightsAreLinear, SumsOfWeightsAreLinear, EventsAreHeavy};
 ghost use Rattle.cd_ident.specs.Keys.{CompatibleIdsAreTheKeys};
 
 /// The identifiers of two events are compatible exactly as the pairing asks of their keys.
@@ -39,4 +39,9 @@ pub fn event_weights_are_linear()
 /// A capture takes more than five bytes for a datagram besides its payload, so all events of 2^48 bytes weigh less than 2^63.
 pub fn sums_of_weights_are_linear()
     ensures { SumsOfWeightsAreLinear }
+{}
+
+/// No event is lighter than `LEAST_WEIGHT`, so the laws of cd_pairing on what is settled hold of all events.
+pub fn events_are_heavy()
+    ensures { EventsAreHeavy }
 {}
