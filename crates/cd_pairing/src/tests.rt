@@ -69,13 +69,16 @@ fn the_earliest_that_agrees_is_joined(rt: HostRuntime) {
         event(Side::Response, 1, 3),
     ];
     let partners = pair_samples(rt.alloc(), &events).expect(&rt, "there is memory");
-    assert_eq!(rt; partners.as_slice(), [Some(3), None, None, Some(0)].as_slice());
+    assert_eq!(rt;
+        partners.as_slice(),
+        [Some(3), None, None, Some(0)].as_slice()
+    );
 }
 
 const LOOKUPS: u64 = 40_000;
 
-// Lookups 2.5 ms apart, which is 100 s in all, each with its response 0.1 ms after it. Of each sixteenth the response is
-// another kind of event, so that its query waits until its window closes.
+// Lookups 2.5 ms apart, which is 100 s in all, each with its response 0.1 ms after it. Every sixteenth has an
+// event of no side for its response, so that its query waits until its window closes.
 fn make_lookups(alloc: Global) -> Result<Vec<Sample>, AllocError> {
     let mut events = Vec::new(alloc);
     for k in 0..LOOKUPS {
