@@ -17,11 +17,13 @@ pub record IsEventWeight (weight : ℕ) : Type 0 where
 
 -- the weight of the event of a datagram is one, where the payload has at most 65,535 bytes
 abbrev pub EventWeightsAreBounded : Type 0
-EventWeightsAreBounded = (rules : EventRules) (d : Datagram) → length d.payload ≤ 65535 → IsEventWeight (event_parts rules d).weight
+EventWeightsAreBounded = (rules : EventRules) (d : Datagram) → length d.payload ≤ 65535 →
+    IsEventWeight (event_parts rules d).weight
 
 -- the event of a datagram weighs at most 829 sixteenths of its payload and five bytes more
 abbrev pub EventWeightsAreLinear : Type 0
-EventWeightsAreLinear = (rules : EventRules) (d : Datagram) → 16 * (event_parts rules d).weight ≤ 829 * (length d.payload + 5)
+EventWeightsAreLinear = (rules : EventRules) (d : Datagram) →
+    16 * (event_parts rules d).weight ≤ 829 * (length d.payload + 5)
 
 -- and so do the events of some datagrams, all together
 abbrev pub SumsOfWeightsAreLinear : Type 0

@@ -33,8 +33,8 @@ pub enum Body {
     Nothing,
 }
 
-/// A datagram as an event of DNS traffic. Its body is of its kind: a query has a valid message with QR 0, and a response one
-/// with QR 1.
+/// A datagram as an event of DNS traffic. Its body is of its kind: a query has a valid message with QR 0, and a
+/// response one with QR 1.
 #[derive(Debug, Drop)]
 pub struct Event {
     /// Nanoseconds since 1970, below 2^32 seconds.
@@ -57,8 +57,8 @@ pub struct Event {
     pub trailing: bool,
     /// What tells which events belong together.
     pub ids: Ids,
-    /// What it counts for where events are held back: the weight of its message, 256 and its payload where that is none, or 256 where
-    /// nothing is kept.
+    /// What it counts for where events are held back: the weight of its message, 256 and its payload where that is
+    /// none, or 256 where nothing is kept.
     pub weight: u64,
     /// What is kept of the payload.
     pub body: Body,
