@@ -14,7 +14,7 @@ use Rattle.cd_pairing.specs.Events.{EventView, event_at, are_opposite}
 use Rattle.cd_pairing.specs.Matching.{partner, IsMatching}
 use Rattle.cd_pairing.specs.Pairing.{StampedEvent, stamped_event, identifiers_agree, is_in_window, may_pair, are_compatible}
 use Rattle.cd_pairing.specs.Settling.{is_neither}
-use Rattle.cd_pairing.specs.Waiting.{stamp_at, no_stamp, stamp_under, event_of, other_side, IsFirstFit, NothingFits, IsFrontClosed, DropsClosed, AreInside, IsOfUnpaired, WaitsUnder, IsWaiting, ArePaired}
+use Rattle.cd_pairing.specs.Waiting.{stamp_at, no_stamp, stamp_under, event_of, other_side, IsFirstFit, NothingFits, IsFrontClosed, DropsClosed, IsInside, AreInside, IsOfUnpaired, WaitsUnder, IsWaiting, ArePaired}
 use Rattle.cd_pairing.proofs.Joining.{NoneFits, Earliest, join_none, join_some, joined, lookup_alone, at_last, at_other}
 use Rattle.cd_pairing.proofs.Waiting.{told, wait_on, wait_same, wait_more, wait_less}
 
@@ -53,7 +53,7 @@ pub record Meets (windows : Windows) (events : List EventView) (p : List (Option
   pub some_side : is_neither (event_at events (length p)).side ≡ false
   pub waits : IsWaiting windows events p (other_side (event_at events (length p)).side) waiting
 
-pair_told : (windows : Windows) (events : List EventView) (p : List (Option ℕ)) (side : Side) (s now : Stamp) (i : ℕ) → IsOfUnpaired events p side s → s.place ≡ i → now ≡ stamp_at events (length p) →
+pair_told : (windows : Windows) (events : List EventView) (p : List (Option ℕ)) (side : Side) (s now : Stamp) (i : ℕ) → IsOfUnpaired events p side s → s.index ≡ i → now ≡ stamp_at events (length p) →
     may_pair windows (event_of events s) (event_of events now) ≡ are_compatible windows events i (length p)
 unfolding are_compatible
 pair_told windows events p side s now i u e here =
@@ -85,7 +85,7 @@ nothing_fits windows events p waiting now M F = record {
 
 -- an earlier position waits under a smaller number
 smaller : (windows : Windows) (events : List EventView) (p : List (Option ℕ)) (side : Side) (waiting : List Stamp) (k j : ℕ) → IsWaiting windows events p side waiting → (w : WaitsUnder waiting j) → k < length waiting →
-    j < (stamp_under waiting k).place → w.number < k
+    j < (stamp_under waiting k).index → w.number < k
 smaller windows events p side waiting k j W w lk lt = elim (cases_lt w.number k) [
   | inl h ↦ h
   | inr h ↦
@@ -94,20 +94,20 @@ smaller windows events p side waiting k j W w lk lt = elim (cases_lt w.number k)
         | inl g ↦ let o = W.order k w.number g w.within in absurd (omega arith)
         | inr g ↦
             let same : w.number ≡ k = omega arith in
-            let both : (stamp_under waiting w.number).place ≡ (stamp_under waiting k).place = ap (λ (x : ℕ). (stamp_under waiting x).place) same in
+            let both : (stamp_under waiting w.number).index ≡ (stamp_under waiting k).index = ap (λ (x : ℕ). (stamp_under waiting x).index) same in
             absurd (omega arith)
       ]
 ]
 
 first_fits : (windows : Windows) (events : List EventView) (p : List (Option ℕ)) (waiting : List Stamp) (now : Stamp) (k : ℕ) → Meets windows events p waiting now → IsFirstFit windows events waiting now k →
-    Earliest (are_compatible windows events) (length p) p (stamp_under waiting k).place
+    Earliest (are_compatible windows events) (length p) p (stamp_under waiting k).index
 first_fits windows events p waiting now k M F =
     let side : Side = other_side (event_at events (length p)).side in
     let u = M.waits.each k F.within in
     record {
       inside = u.within;
       free = u.free;
-      fits = sym (pair_told windows events p side (stamp_under waiting k) now (stamp_under waiting k).place u refl M.here) ∙ F.good;
+      fits = sym (pair_told windows events p side (stamp_under waiting k) now (stamp_under waiting k).index u refl M.here) ∙ F.good;
       earlier = record {
         none = λ j lt free. (let w = u.within in unpaired_fails windows events p waiting now j M (omega arith) free (λ v. F.earlier v.number (smaller windows events p side waiting k j M.waits v F.within lt)));
       };
@@ -119,11 +119,11 @@ counted R q n e M = subst (λ (k : ℕ). IsMatching R k q) (sym e) M
 -- the next event is paired with the first that fits
 pub met_joined : (windows : Windows) (events : List EventView) (p : List (Option ℕ)) (others own : List Stamp) (now : Stamp) (k : ℕ) → Meets windows events p others now → IsFirstFit windows events others now k →
     ArePaired windows events p (event_at events (length p)).side others own →
-    ArePaired windows events (joined p (stamp_under others k).place (length p)) (event_at events (length p)).side (remove others k) own
+    ArePaired windows events (joined p (stamp_under others k).index (length p)) (event_at events (length p)).side (remove others k) own
 met_joined windows events p others own now k M F A =
     let n : ℕ = length p in
     let side : Side = (event_at events n).side in
-    let a : ℕ = (stamp_under others k).place in
+    let a : ℕ = (stamp_under others k).index in
     let u = M.waits.each k F.within in
     let long : length (joined p a n) ≡ n + 1 = length_push (slice_set p a (Some n)) (Some a) ∙ ap (λ (x : ℕ). x + 1) (length-set p a (Some n)) in
     record {
@@ -182,14 +182,13 @@ drops_more windows events old mid new now D F e =
       ];
     }
 
-pub drops_inside : (count : ℕ) (windows : Windows) (events : List EventView) (old new : List Stamp) (now : Stamp) → DropsClosed windows events old new now → AreInside count old → AreInside count new
-drops_inside count windows events old new now D I = record {
-  inside = λ k lt.
+pub drops_inside : (windows : Windows) (events : List EventView) (old new : List Stamp) (now : Stamp) → DropsClosed windows events old new now → AreInside events old → AreInside events new
+drops_inside windows events old new now D I = record {
+  each = λ k lt.
       let c : ℕ = D.count in
       let long : length new ≡ length old - c = ap length D.left ∙ length-drop c old in
-      let at : (stamp_under new k).place ≡ (stamp_under old (c + k)).place = ap (λ (t : List Stamp). (stamp_under t k).place) D.left ∙ ap (λ (s : Stamp). s.place) (get_or-drop c old k no_stamp) in
-      let b = I.inside (c + k) (omega arith) in
-      omega arith;
+      let at : stamp_under new k ≡ stamp_under old (c + k) = ap (λ (t : List Stamp). stamp_under t k) D.left ∙ get_or-drop c old k no_stamp in
+      subst (λ (s : Stamp). IsInside events s) (sym at) (I.each (c + k) (omega arith));
 }
 
 -- after what has closed is dropped, the rest meets the next event

@@ -1,6 +1,7 @@
 -- Scaffolding, which only contracts of private functions cite: what the matcher of a whole list keeps.
-use Rattle.std.specs.Prelude.{◌≡◌, ℕ, ◌<◌, ◌≤◌, ◌⊎◌, true, false, max, List, length, take, drop, Option, None, slice_index_or}
+use Rattle.std.specs.Prelude.{◌≡◌, ℕ, ◌+◌, ◌*◌, ◌%◌, ◌^◌, ◌<◌, ◌≤◌, ◌⊎◌, true, false, max, List, length, take, drop, Option, None, slice_index_or}
 use Rattle.std.specs.List.{fold, sum_by}
+use Rattle.cd_pairing.specs.declared.digest.TheConstants.{FACTOR}
 use Rattle.cd_pairing.specs.declared.keyed.Side.{Side}
 use Rattle.cd_pairing.specs.declared.keyed.Side.TheVariants.{Query, Response, Neither}
 use Rattle.cd_pairing.specs.declared.keyed.Windows.{Windows}
@@ -12,15 +13,24 @@ use Rattle.cd_pairing.specs.Pairing.{StampedEvent, stamped_event, is_in_window, 
 
 -- an event with the stamp of its position
 abbrev pub with_stamp : EventView → Stamp → StampedEvent
-with_stamp view s = record { view = view; place = s.place; clock = s.clock; weight_sum = s.weight_sum }
+with_stamp view s = record { view = view; index = s.index; clock = s.clock; weight_sum = s.weight_sum }
+
+-- a digest of these bytes, by which most that differ are told apart
+unfoldable pub digest_of : List ℕ → ℕ
+digest_of bytes = fold (λ digest byte. (digest * FACTOR % 2 ^ 64 + byte) % 2 ^ 64) 0 bytes
 
 -- the stamp of the event at this position
 abbrev pub stamp_at : List EventView → ℕ → Stamp
-stamp_at events i = record { place = i; clock = clock events i; weight_sum = weight_sum events i }
+stamp_at events i = record {
+  index = i;
+  clock = clock events i;
+  weight_sum = weight_sum events i;
+  digest = digest_of (event_at events i).primary;
+}
 
 -- what stands past the end of a list of stamps
 abbrev pub no_stamp : Stamp
-no_stamp = record { place = 0; clock = 0; weight_sum = 0 }
+no_stamp = record { index = 0; clock = 0; weight_sum = 0; digest = 0 }
 
 -- the stamp under this number
 abbrev pub stamp_under : List Stamp → ℕ → Stamp
@@ -28,7 +38,7 @@ stamp_under waiting k = slice_index_or waiting k no_stamp
 
 -- the event of a stamp, with the stamp
 abbrev pub event_of : List EventView → Stamp → StampedEvent
-event_of events s = with_stamp (event_at events s.place) s
+event_of events s = with_stamp (event_at events s.index) s
 
 -- the side that an event of this side is paired with
 abbrev pub other_side : Side → Side
@@ -59,16 +69,21 @@ pub record DropsClosed (windows : Windows) (events : List EventView) (before aft
   pub closed : (k : ℕ) → k < count →
       is_in_window windows (event_of events (stamp_under before k)) (event_of events now) ≡ false
 
--- each stamp is that of an event among these
-pub record AreInside (count : ℕ) (waiting : List Stamp) : Type 0 where
-  pub inside : (k : ℕ) → k < length waiting → (stamp_under waiting k).place < count
+-- a stamp is at one of these events, and has the digest of its primary
+pub record IsInside (events : List EventView) (s : Stamp) : Type 0 where
+  pub inside : s.index < length events
+  pub digest : s.digest ≡ digest_of (event_at events s.index).primary
+
+-- each stamp is
+pub record AreInside (events : List EventView) (waiting : List Stamp) : Type 0 where
+  pub each : (k : ℕ) → k < length waiting → IsInside events (stamp_under waiting k)
 
 -- what a stamp of this side tells: it is that of an unpaired event of the side
 pub record IsOfUnpaired (events : List EventView) (partners : List (Option ℕ)) (side : Side) (s : Stamp) : Type 0 where
-  pub stamp : s ≡ stamp_at events s.place
-  pub within : s.place < length partners
-  pub free : partner partners s.place ≡ None
-  pub side_is : (event_at events s.place).side ≡ side
+  pub stamp : s ≡ stamp_at events s.index
+  pub within : s.index < length partners
+  pub free : partner partners s.index ≡ None
+  pub side_is : (event_at events s.index).side ≡ side
 
 -- this position stands in the window of no event from that one on
 pub record HasClosed (windows : Windows) (events : List EventView) (i n : ℕ) : Type 0 where
@@ -79,12 +94,12 @@ pub record HasClosed (windows : Windows) (events : List EventView) (i n : ℕ) :
 pub record WaitsUnder (waiting : List Stamp) (i : ℕ) : Type 0 where
   pub number : ℕ
   pub within : number < length waiting
-  pub is : (stamp_under waiting number).place ≡ i
+  pub is : (stamp_under waiting number).index ≡ i
 
 -- the stamps of one side that wait, in order: all of its unpaired events but those whose windows have closed
 pub record IsWaiting (windows : Windows) (events : List EventView) (partners : List (Option ℕ)) (side : Side) (waiting : List Stamp) : Type 0 where
   pub each : (k : ℕ) → k < length waiting → IsOfUnpaired events partners side (stamp_under waiting k)
-  pub order : (k l : ℕ) → k < l → l < length waiting → (stamp_under waiting k).place < (stamp_under waiting l).place
+  pub order : (k l : ℕ) → k < l → l < length waiting → (stamp_under waiting k).index < (stamp_under waiting l).index
   pub all : (i : ℕ) → i < length partners → partner partners i ≡ None → (event_at events i).side ≡ side →
       HasClosed windows events i (length partners) ⊎ WaitsUnder waiting i
 
