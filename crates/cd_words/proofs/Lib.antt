@@ -10,4 +10,5 @@ mod ValidParts
 mod OptionNames
 mod Decimal
 mod LineOrBreak
+mod SaysOrNot
 mod OptionValues

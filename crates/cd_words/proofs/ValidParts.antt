@@ -5,7 +5,7 @@ use Rattle.cd_hints.specs.declared.settings.Settings.{Settings}
 use Rattle.cd_hints.specs.declared.options.ListOption.{ListOption}
 use Rattle.cd_hints.specs.declared.options.ListOption.TheVariants.{Opcodes, RrTypes}
 use Rattle.cd_hints.specs.Validity.{AreValidParams, IsValid}
-use Rattle.cd_words.specs.Changes.{with_parts}
+use Rattle.cd_words.specs.Compact.{with_parts}
 use Rattle.cd_words.proofs.Reach.{listed_ascends}
 
 -- the opcodes may be any, and the types ascend

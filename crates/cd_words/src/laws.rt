@@ -1,6 +1,7 @@
 //! Laws of the language: contracts of functions that do nothing.
 
 ghost use Rattle.cd_words.specs.Laws.{NumbersAreDecimal, OptionsHaveNames, OptionsHaveValues, LinesOrBreaks};
+ghost use Rattle.cd_words.specs.Compact.{compact};
 
 /// A law: bytes are a number exactly where they are what std writes of it. It does nothing.
 pub fn numbers_are_decimal()
@@ -17,7 +18,7 @@ pub fn options_have_values()
     ensures { OptionsHaveValues }
 {}
 
-/// A law: words are a command line, or break a rule at exactly one place. It does nothing.
+/// A law: words are a command line of `compact`, or break a rule of it at exactly one place. It does nothing.
 pub fn words_are_a_line_or_break_a_rule()
-    ensures { LinesOrBreaks }
+    ensures { LinesOrBreaks compact }
 {}

@@ -2,7 +2,7 @@ use Rattle.std.proofs.Common.{◌≡◌, Some, sym, ap, ◌∙◌}
 use Rattle.cd_hints.specs.Options.{list_range}
 use Rattle.cd_words.specs.Parts.{parts_of}
 use Rattle.cd_words.proofs.PartsWithin.{parts_below}
-use Rattle.cd_words.proofs.command.set.Goals as goal
+use Rattle.cd_words.proofs.compact.put.Goals as goal
 
 pub put_parts-requires : goal.put_parts-requires
 put_parts-requires c =

@@ -3,7 +3,7 @@ use Rattle.std.proofs.lemmas.Bool.Decides.{Decides-eqb}
 use Rattle.std.proofs.lemmas.Slice.Eq.{strip_prefix_is}
 use Rattle.cd_words.specs.declared.compact_option.CompactOption.TheVariants.{Number, Parts}
 use Rattle.cd_words.proofs.OptionNames.{names_it, no_dashes, no_name}
-use Rattle.cd_words.proofs.compact_option.CompactOption.named.Goals as goal
+use Rattle.cd_words.proofs.compact_option.named.Goals as goal
 
 pub returns-in_default : goal.returns-in_default
 returns-in_default c = no_dashes c.args.word.now (strip_prefix_is Decides-eqb c.args.word.now (45 ∷ 45 ∷ []) None c.in_default.ensures.cases)
