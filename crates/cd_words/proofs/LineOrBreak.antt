@@ -75,7 +75,7 @@ names_or_not {C} language words place below = by (language.named (word_at words 
 abbrev Said : {C S : Type 0} → Language C S → List (List ℕ) → ℕ → Option C → Type 0
 Said language words place o = IsSomeAnd o (λ option. language.Says option (word_at words (place + 1)))
 
--- the word behind a name says a value or not
+-- the word after a name says a value or not
 value_or_not : {C S : Type 0} (language : Language C S) → IsDecided language → (words : List (List ℕ)) (place : ℕ) → SaysValue language words place ⊎ ¬ (SaysValue language words place)
 value_or_not {C} language decided words place = by (ltb (place + 1) (length words)) refl (said (language.named (word_at words place)))
   where
@@ -93,7 +93,7 @@ value_or_not {C} language decided words place = by (ltb (place + 1) (length word
 abbrev Judged : {C S : Type 0} → Language C S → List (List ℕ) → Type 0
 Judged language words = IsCommandLine language words ⊎ ((place : ℕ) × BreaksAt language words place)
 
--- a front that is a command line is all, or a rule is broken behind it, or it goes on by an option and its value
+-- a front that is a command line is all, or a rule is broken after it, or it goes on by an option and its value
 abbrev Longer : {C S : Type 0} → Language C S → List (List ℕ) → ℕ → Type 0
 Longer language words k = (2 * k + 1 ≤ length words) × IsCommandLine language (take (2 * k + 1) words)
 

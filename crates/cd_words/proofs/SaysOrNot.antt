@@ -54,4 +54,3 @@ says_or_not (Parts option) word = by (parts_of (list_range option) word)
     by : (o : Option (List Interval)) → IsSome o ⊎ ¬ (IsSome o)
     by None = inr (λ h. false≢true h)
     by (Some parts) = inl refl
-

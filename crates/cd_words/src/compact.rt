@@ -59,12 +59,7 @@ impl CommandOption for CompactOption {
         named(word)
     }
 
-    fn put(
-        self,
-        alloc: Global,
-        settings: &mut Settings,
-        word: &[u8],
-    ) -> Result<bool, AllocError> {
+    fn put(self, alloc: Global, settings: &mut Settings, word: &[u8]) -> Result<bool, AllocError> {
         put(alloc, settings, self, word)
     }
 }
