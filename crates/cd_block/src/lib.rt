@@ -30,7 +30,7 @@ pub mod flags;
 pub mod hints;
 mod kept;
 pub mod keys;
-mod law;
+pub mod laws;
 mod params;
 mod stamp;
 mod stats;
@@ -42,7 +42,6 @@ pub use hints::Hints;
 pub use kept::{
     KeptBlock, KeptData, KeptItem, KeptLists, KeptMalformed, KeptQuestion, KeptRr, KeptSig,
 };
-pub use law::bits_are_those_of_keys;
 pub use params::Params;
 pub use stamp::Stamp;
 pub use stats::Stats;
