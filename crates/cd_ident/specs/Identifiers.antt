@@ -1,5 +1,5 @@
 -- The identifiers of an event (RFC 8618 10.2): a primary that both halves of an exchange have, and a secondary that one may lack.
-use Rattle.std.specs.Prelude.{◌≡◌, ℕ, Bool, ◌&&◌, nat_eq, List, [], ◌∷◌, ◌++◌, map, if◌then◌else◌, Option, Some, None, ◌⊎◌}
+use Rattle.std.specs.Prelude.{◌≡◌, ℕ, Bool, ◌&&◌, nat_eq, List, [], ◌∷◌, ◌++◌, map, if◌then◌else◌, slice_index, Option, Some, None, ◌⊎◌}
 use Rattle.std.specs.Int.{w16, to_be_bytes}
 use Rattle.std.specs.Cmp.Lexicographic.{pointwise}
 use Rattle.cd_name.specs.Names.{lower_case}
@@ -41,6 +41,10 @@ secondary_of (q ∷ others) = Some (map lower_case q.name ++ to_be_bytes w16 q.r
 -- the identifiers of what is no message, or is not listed: its ends alone
 abbrev pub bare_ids : Ends → Ids
 bare_ids ends = record { primary = primary_of ends 0 0; secondary = None }
+
+-- the transport: the byte after the ports
+abbrev pub transport_of : Ids → ℕ
+transport_of ids = slice_index ids.primary 37
 
 -- equal primaries, and secondaries that are equal or of which one is absent
 abbrev pub ids_agree : Ids → Ids → Bool

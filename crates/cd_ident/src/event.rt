@@ -1,6 +1,7 @@
-ghost use Rattle.std.specs.Prelude.{◌≡◌, ◌<◌, ◌≤◌, slice_index};
+ghost use Rattle.std.specs.Prelude.{◌≡◌, ◌<◌, ◌≤◌};
 ghost use Rattle.cd_packet.specs.Time.{end_of_time};
 ghost use Rattle.cd_ident.specs.Bodies.{HasBody, HasBody-prop};
+ghost use Rattle.cd_ident.specs.Identifiers.{transport_of};
 
 use crate::identifiers::Ids;
 use cd_message::Message;
@@ -62,6 +63,6 @@ pub struct Event {
     pub body: Body,
     pub ghost timely: { time < end_of_time },
     pub ghost one_version: { client.v6 ≡ server.v6 },
-    pub ghost small_transport: { slice_index ids.primary 37 ≤ 15 },
+    pub ghost small_transport: { transport_of ids ≤ 15 },
     pub ghost has_body: { HasBody kind body } by { HasBody-prop kind body },
 }

@@ -1,10 +1,11 @@
 //! The event of a datagram.
 
-ghost use Rattle.std.specs.Prelude.{◌≡◌, ◌≤◌, length, IfOk, slice_index};
+ghost use Rattle.std.specs.Prelude.{◌≡◌, ◌≤◌, length, IfOk};
 ghost use Rattle.cd_message.specs.Valid.{Valid};
 ghost use Rattle.cd_ident.specs.Bodies.{HasBody};
 ghost use Rattle.cd_ident.specs.Datagrams.{datagram_of};
 ghost use Rattle.cd_ident.specs.Events.{event_parts, malformed_parts, message_parts, parts_of_payload};
+ghost use Rattle.cd_ident.specs.Identifiers.{transport_of};
 ghost use Rattle.cd_ident.specs.Identifiers;
 ghost use Rattle.cd_ident.specs.KeptEnds.{kept_ends};
 ghost use Rattle.cd_ident.specs.Keys.{parts_of};
@@ -26,7 +27,7 @@ pub const GREATEST_WEIGHT: u64 = 3_400_000;
 // The identifiers of what is no message, or is not listed.
 fn bare_ids(ends: &Ends) -> Ids
     ensures exact { result ≡ Identifiers.bare_ids (kept_ends ends.now) }
-    ensures transport { slice_index result.primary 37 ≤ 15 }
+    ensures transport { transport_of result ≤ 15 }
 {
     Ids {
         primary: primary_of(ends, 0, 0),
@@ -46,7 +47,7 @@ fn event_between(
 ) -> Event
     requires one_version { ends.client.v6 ≡ ends.server.v6 }
     requires fits { length dgram.now.payload.now ≤ 65535 }
-    requires small_transport { slice_index ids.primary 37 ≤ 15 }
+    requires small_transport { transport_of ids ≤ 15 }
     requires has_body { HasBody kind body }
     ensures { parts_of result ≡ parts_of_payload (datagram_of dgram.now) (kept_ends ends) kind trailing ids weight body }
 {

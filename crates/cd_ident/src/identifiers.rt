@@ -1,7 +1,8 @@
 ghost use Rattle.std.specs.Prelude.{◌≡◌, ◌↔◌, IsTrue};
 ghost use Rattle.cd_pairing.specs.Events.{secondaries_agree};
-ghost use Rattle.cd_ident.specs.Identifiers.{ids_agree, IdsAgree};
+ghost use Rattle.cd_ident.specs.Identifiers.{ids_agree, transport_of, IdsAgree};
 
+use crate::primary::TRANSPORT;
 use cd_name::Blob;
 
 /// The identifiers of an event (RFC 8618 10.2).
@@ -12,6 +13,15 @@ pub struct Ids {
     pub primary: [u8; 41],
     /// The first question, with its name in lower case. One half of an exchange may lack it.
     pub secondary: Option<Blob>,
+}
+
+impl Ids {
+    /// The transport (RFC 8618 7.3.2.3.2): 0 is UDP. That of an event is at most 15.
+    pub fn transport(&self) -> u8
+        ensures exact { result ≡ transport_of self.now }
+    {
+        self.primary[TRANSPORT]
+    }
 }
 
 // Whether two secondaries are equal, or one is absent.

@@ -18,7 +18,7 @@ mod event_pairing;
 mod event_rules;
 mod header;
 mod identifiers;
-mod law;
+pub mod laws;
 mod primary;
 mod secondary;
 #[cfg(test)]
@@ -29,8 +29,4 @@ pub use event_making::{GREATEST_WEIGHT, event_of};
 pub use event_rules::EventRules;
 pub use header::opcode_of;
 pub use identifiers::{Ids, compatible_ids};
-pub use law::{
-    compatible_ids_are_the_keys, event_weights_are_bounded, primaries_are_exact,
-    responses_have_the_primary, secondaries_are_exact,
-};
 pub use primary::TRANSPORT;

@@ -11,12 +11,12 @@ use Rattle.cd_message.specs.declared.message.Rr.{Rr}
 use Rattle.cd_message.specs.declared.message.Message.{Message}
 use Rattle.cd_message.specs.declared.shape.Shape as kind
 use Rattle.cd_message.specs.Messages.{bytes_at}
-use Rattle.cd_message.specs.MessageLaws.{ReadMessagesAreLight}
+use Rattle.cd_message.specs.MessageLaws.{MessageWeightsAreLinear, ReadMessagesAreLight}
 use Rattle.cd_message.specs.Rules.{ReadsEach, none, one_more, ReadsQuestion, RdataNameAt, ReadsRdata, empty, any_bytes, shaped, ReadsRecord, ReadsMessage}
 use Rattle.cd_message.specs.Weights.{question_weight, record_weight, weight_of}
 use Rattle.cd_message.proofs.Valid.{IsSmall, shapes_are_small}
 use Rattle.cd_message.proofs.MessagesByRules.{spelled_by_rules}
-use Rattle.cd_message.proofs.Within.{lies_within}
+use Rattle.cd_message.proofs.Within.{messages_lie_within}
 
 -- a size is light for the bytes between two offsets: 829 sixteenths for each, and some to spare
 abbrev IsLight : ℕ → ℕ → ℕ → ℕ → Type 0
@@ -91,18 +91,21 @@ each_is_light weight light (none at) = omega arith
 each_is_light weight light (one_more count at next end item items reads others) =
     omega (arith, sum_by-cons weight item items, light at item next reads, each_is_light weight light others)
 
--- a message that the rules read from at most 65,535 bytes weighs at most 3,400,000
-is_light : (p : List ℕ) (m : Message) (used : ℕ) → ReadsMessage p m used → length p ≤ 65535 → weight_of m ≤ 3400000
-is_light p m used reads few =
+-- a message that the rules read is light for its own bytes
+is_light : (p : List ℕ) (m : Message) (used : ℕ) → ReadsMessage p m used → 16 * weight_of m ≤ 829 * used
+is_light p m used reads =
     omega (
       arith,
       each_is_light question_weight (question_is_light p) reads.has_questions,
       each_is_light record_weight (record_is_light p) reads.has_answers.are_read,
       each_is_light record_weight (record_is_light p) reads.has_authority.are_read,
       each_is_light record_weight (record_is_light p) reads.has_additional.are_read,
-      (lies_within p m used reads).1,
     )
+
+-- the law on the weight of messages that are read, by their bytes
+pub message_weights_are_linear : MessageWeightsAreLinear
+message_weights_are_linear p m used h = is_light p m used ((spelled_by_rules p m used).0 h)
 
 -- the law on the weight of messages that are read
 pub read_messages_are_light : ReadMessagesAreLight
-read_messages_are_light p m used h few = is_light p m used ((spelled_by_rules p m used).0 h) few
+read_messages_are_light p m used h few = omega (arith, message_weights_are_linear p m used h, (messages_lie_within p m used h).1)

@@ -1,5 +1,5 @@
 -- Laws of the reading of messages.
-use Rattle.std.specs.Prelude.{◌≡◌, ℕ, ◌≤◌, ◌<◌, List, ◌++◌, length, slice_index, Ok}
+use Rattle.std.specs.Prelude.{◌≡◌, ℕ, ◌*◌, ◌≤◌, ◌<◌, List, ◌++◌, length, slice_index, Ok}
 use Rattle.cd_message.specs.declared.message.Message.{Message}
 use Rattle.cd_message.specs.Messages.{Spells, rdata_at}
 use Rattle.cd_message.specs.Shapes.{shape_of}
@@ -22,8 +22,12 @@ MessagesLieWithin = (payload : List ℕ) (message : Message) (used : ℕ) → Sp
 abbrev pub MessagesStay : Type 0
 MessagesStay = (payload more : List ℕ) (message : Message) (used : ℕ) → Spells payload message used → Spells (payload ++ more) message used
 
--- A message that is read from at most 65,535 bytes weighs at most 3,400,000, however its names are compressed: a record of two names in RDATA, all
--- of them pointers, weighs 829 in 16 bytes, and nothing weighs more for its bytes.
+-- A message that is read weighs at most 829 sixteenths of its bytes: a record of two names in RDATA, all of them pointers, weighs 829 in 16 bytes,
+-- and nothing weighs more for its bytes.
+abbrev pub MessageWeightsAreLinear : Type 0
+MessageWeightsAreLinear = (payload : List ℕ) (message : Message) (used : ℕ) → Spells payload message used → 16 * weight_of message ≤ 829 * used
+
+-- a message that is read from at most 65,535 bytes weighs at most 3,400,000
 abbrev pub ReadMessagesAreLight : Type 0
 ReadMessagesAreLight = (payload : List ℕ) (message : Message) (used : ℕ) → Spells payload message used → length payload ≤ 65535 → weight_of message ≤ 3400000
 

@@ -11,7 +11,7 @@
 #![tactic(auto)]
 
 mod field;
-mod law;
+pub mod laws;
 mod message;
 mod message_reading;
 mod message_writing;
@@ -26,11 +26,6 @@ mod writing;
 #[cfg(test)]
 mod writing_tests;
 
-pub use law::{
-    messages_are_valid, messages_follow_the_rules, messages_lie_within, messages_stay,
-    parts_fill_shapes, rdata_keeps_its_shape, read_messages_are_light, rules_give_one,
-    written_messages_are_read,
-};
 pub use message::{Message, MsgWhy, OPT, ParseFault, Parsed, Question, Rr};
 pub use message_reading::parse;
 pub use message_writing::write;

@@ -11,5 +11,6 @@ pub mod Sets
 pub mod AlikeWeights
 pub mod Waiting
 pub mod Meeting
+pub mod Digests
 pub mod Stamps
 pub mod Matcher

@@ -14,7 +14,7 @@ use Rattle.cd_pairing.specs.Events.{EventView, event_at, are_opposite}
 use Rattle.cd_pairing.specs.Matching.{partner, IsMatching}
 use Rattle.cd_pairing.specs.Pairing.{StampedEvent, stamped_event, identifiers_agree, is_in_window, may_pair, are_compatible}
 use Rattle.cd_pairing.specs.Settling.{is_neither}
-use Rattle.cd_pairing.specs.Waiting.{stamp_at, no_stamp, stamp_under, event_of, other_side, IsFirstFit, NothingFits, IsFrontClosed, DropsClosed, AreInside, IsOfUnpaired, WaitsUnder, IsWaiting, ArePaired}
+use Rattle.cd_pairing.specs.Waiting.{stamp_at, no_stamp, stamp_under, event_of, other_side, IsFirstFit, NothingFits, IsFrontClosed, DropsClosed, IsInside, AreInside, IsOfUnpaired, WaitsUnder, IsWaiting, ArePaired}
 use Rattle.cd_pairing.proofs.Joining.{NoneFits, Earliest, join_none, join_some, joined, lookup_alone, at_last, at_other}
 use Rattle.cd_pairing.proofs.Waiting.{told, wait_on, wait_same, wait_more, wait_less}
 
@@ -182,14 +182,13 @@ drops_more windows events old mid new now D F e =
       ];
     }
 
-pub drops_inside : (count : ℕ) (windows : Windows) (events : List EventView) (old new : List Stamp) (now : Stamp) → DropsClosed windows events old new now → AreInside count old → AreInside count new
-drops_inside count windows events old new now D I = record {
-  inside = λ k lt.
+pub drops_inside : (windows : Windows) (events : List EventView) (old new : List Stamp) (now : Stamp) → DropsClosed windows events old new now → AreInside events old → AreInside events new
+drops_inside windows events old new now D I = record {
+  each = λ k lt.
       let c : ℕ = D.count in
       let long : length new ≡ length old - c = ap length D.left ∙ length-drop c old in
-      let at : (stamp_under new k).place ≡ (stamp_under old (c + k)).place = ap (λ (t : List Stamp). (stamp_under t k).place) D.left ∙ ap (λ (s : Stamp). s.place) (get_or-drop c old k no_stamp) in
-      let b = I.inside (c + k) (omega arith) in
-      omega arith;
+      let at : stamp_under new k ≡ stamp_under old (c + k) = ap (λ (t : List Stamp). stamp_under t k) D.left ∙ get_or-drop c old k no_stamp in
+      subst (λ (s : Stamp). IsInside events s) (sym at) (I.each (c + k) (omega arith));
 }
 
 -- after what has closed is dropped, the rest meets the next event

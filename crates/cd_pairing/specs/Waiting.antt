@@ -1,6 +1,7 @@
 -- Scaffolding, which only contracts of private functions cite: what the matcher of a whole list keeps.
-use Rattle.std.specs.Prelude.{◌≡◌, ℕ, ◌<◌, ◌≤◌, ◌⊎◌, true, false, max, List, length, take, drop, Option, None, slice_index_or}
+use Rattle.std.specs.Prelude.{◌≡◌, ℕ, ◌+◌, ◌*◌, ◌%◌, ◌^◌, ◌<◌, ◌≤◌, ◌⊎◌, true, false, max, List, length, take, drop, Option, None, slice_index_or}
 use Rattle.std.specs.List.{fold, sum_by}
+use Rattle.cd_pairing.specs.declared.digest.TheConstants.{FACTOR}
 use Rattle.cd_pairing.specs.declared.keyed.Side.{Side}
 use Rattle.cd_pairing.specs.declared.keyed.Side.TheVariants.{Query, Response, Neither}
 use Rattle.cd_pairing.specs.declared.keyed.Windows.{Windows}
@@ -14,13 +15,22 @@ use Rattle.cd_pairing.specs.Pairing.{StampedEvent, stamped_event, is_in_window, 
 abbrev pub with_stamp : EventView → Stamp → StampedEvent
 with_stamp view s = record { view = view; place = s.place; clock = s.clock; weight_sum = s.weight_sum }
 
+-- a digest of these bytes, by which most that differ are told apart
+unfoldable pub digest_of : List ℕ → ℕ
+digest_of bytes = fold (λ digest byte. (digest * FACTOR % 2 ^ 64 + byte) % 2 ^ 64) 0 bytes
+
 -- the stamp of the event at this position
 abbrev pub stamp_at : List EventView → ℕ → Stamp
-stamp_at events i = record { place = i; clock = clock events i; weight_sum = weight_sum events i }
+stamp_at events i = record {
+  place = i;
+  clock = clock events i;
+  weight_sum = weight_sum events i;
+  digest = digest_of (event_at events i).primary;
+}
 
 -- what stands past the end of a list of stamps
 abbrev pub no_stamp : Stamp
-no_stamp = record { place = 0; clock = 0; weight_sum = 0 }
+no_stamp = record { place = 0; clock = 0; weight_sum = 0; digest = 0 }
 
 -- the stamp under this number
 abbrev pub stamp_under : List Stamp → ℕ → Stamp
@@ -59,9 +69,14 @@ pub record DropsClosed (windows : Windows) (events : List EventView) (before aft
   pub closed : (k : ℕ) → k < count →
       is_in_window windows (event_of events (stamp_under before k)) (event_of events now) ≡ false
 
--- each stamp is that of an event among these
-pub record AreInside (count : ℕ) (waiting : List Stamp) : Type 0 where
-  pub inside : (k : ℕ) → k < length waiting → (stamp_under waiting k).place < count
+-- a stamp is at one of these events, and has the digest of its primary
+pub record IsInside (events : List EventView) (s : Stamp) : Type 0 where
+  pub inside : s.place < length events
+  pub digest : s.digest ≡ digest_of (event_at events s.place).primary
+
+-- each stamp is
+pub record AreInside (events : List EventView) (waiting : List Stamp) : Type 0 where
+  pub each : (k : ℕ) → k < length waiting → IsInside events (stamp_under waiting k)
 
 -- what a stamp of this side tells: it is that of an unpaired event of the side
 pub record IsOfUnpaired (events : List EventView) (partners : List (Option ℕ)) (side : Side) (s : Stamp) : Type 0 where

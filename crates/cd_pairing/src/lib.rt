@@ -20,8 +20,9 @@
 //! Example: the queries a, b at 0 and 1 s and the response b at 1.1 s make the pair (1, 2), and 0 stands alone.
 #![tactic(auto)]
 
+mod digest;
 mod keyed;
-mod law;
+pub mod laws;
 mod queue;
 mod stamp;
 #[cfg(test)]
@@ -29,10 +30,4 @@ mod tests;
 mod whole_list;
 
 pub use keyed::{Keyed, LEAST_WEIGHT, Side, Windows};
-pub use law::{
-    each_list_has_a_pairing, fronts_keep_their_pairs, later_events_wait_longer,
-    one_more_joins_the_earliest, one_more_joins_the_earliest_open, pairings_are_sets,
-    pairings_are_unique, released_records_stay, settled_events_keep_their_partners,
-    settled_events_stay_settled,
-};
 pub use whole_list::pair_all;

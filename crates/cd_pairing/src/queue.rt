@@ -1,6 +1,7 @@
-ghost use Rattle.std.specs.Prelude.{◌<◌, length, map, MatchOption};
+ghost use Rattle.std.specs.Prelude.{◌≡◌, map, MatchOption};
 ghost use Rattle.std.specs.Bool.{OnTrue};
-ghost use Rattle.cd_pairing.specs.Waiting.{IsFirstFit, NothingFits, IsFrontClosed, DropsClosed, AreInside};
+ghost use Rattle.cd_pairing.specs.Pairing.{may_pair};
+ghost use Rattle.cd_pairing.specs.Waiting.{IsFirstFit, NothingFits, IsFrontClosed, DropsClosed, IsInside, AreInside, event_of};
 
 use crate::stamp::{Stamp, is_in_window, may_pair};
 use crate::{Keyed, Windows};
@@ -12,8 +13,8 @@ fn front_is_closed<E: Keyed>(
     waiting: &VecDeque<Stamp>,
     now: Stamp,
 ) -> bool
-    requires now_in { now.place < length events.now }
-    requires waiting_in { AreInside (length events.now) waiting.now.items }
+    requires now_in { IsInside (map E.view events.now) now }
+    requires waiting_in { AreInside (map E.view events.now) waiting.now.items }
     ensures { OnTrue result (IsFrontClosed windows.now (map E.view events.now) waiting.now.items now) }
 {
     match waiting.front() {
@@ -29,13 +30,23 @@ pub(crate) fn drop_closed<E: Keyed>(
     waiting: &mut VecDeque<Stamp>,
     now: Stamp,
 )
-    requires now_in { now.place < length events.now }
-    requires waiting_in { AreInside (length events.now) waiting.old.items }
+    requires now_in { IsInside (map E.view events.now) now }
+    requires waiting_in { AreInside (map E.view events.now) waiting.old.items }
     ensures { DropsClosed windows.now (map E.view events.now) waiting.old.items waiting.new.items now }
 {
     'closed: while front_is_closed(windows, events, waiting, now) {
         waiting.pop_front();
     }
+}
+
+// Whether what waits may stand with what comes now. An event whose primary has another digest is not looked at.
+fn fits<E: Keyed>(windows: &Windows, events: &[E], then: Stamp, now: Stamp) -> bool
+    requires then_in { IsInside (map E.view events.now) then }
+    requires now_in { IsInside (map E.view events.now) now }
+    ensures { result ≡ may_pair windows.now (event_of (map E.view events.now) then) (event_of (map E.view events.now) now) }
+{
+    then.digest == now.digest
+        && may_pair(windows, &events[then.place], then, &events[now.place], now)
 }
 
 // The number under which the earliest waits that may stand with what comes now.
@@ -45,16 +56,14 @@ pub(crate) fn first_fit<E: Keyed>(
     waiting: &VecDeque<Stamp>,
     now: Stamp,
 ) -> Option<usize>
-    requires now_in { now.place < length events.now }
-    requires waiting_in { AreInside (length events.now) waiting.now.items }
+    requires now_in { IsInside (map E.view events.now) now }
+    requires waiting_in { AreInside (map E.view events.now) waiting.now.items }
     ensures { MatchOption result
         (NothingFits windows.now (map E.view events.now) waiting.now.items now)
         (IsFirstFit windows.now (map E.view events.now) waiting.now.items now) }
 {
-    let event = &events[now.place];
     'waiting: for k in 0..waiting.len() {
-        let then = waiting[k];
-        if may_pair(windows, &events[then.place], then, event, now) {
+        if fits(windows, events, waiting[k], now) {
             return Some(k);
         }
     }

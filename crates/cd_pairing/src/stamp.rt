@@ -5,12 +5,13 @@ ghost use Rattle.cd_pairing.specs.Waiting.{with_stamp};
 
 use crate::{Keyed, Side, Windows};
 
-// A position, with the clock and the sum of the weights there.
+// A position, with the clock and the sum of the weights there, and the digest of the primary of its event.
 #[derive(Clone, Copy, Debug)]
 pub(crate) struct Stamp {
     pub(crate) place: usize,
     pub(crate) clock: u64,
     pub(crate) weight_sum: u64,
+    pub(crate) digest: u64,
 }
 
 fn are_opposite(a: Side, b: Side) -> bool

@@ -1,4 +1,4 @@
-use Rattle.std.proofs.Common.{length, map}
+use Rattle.std.proofs.Common.{map}
 use Rattle.cd_pairing.proofs.Meeting.{drops_more, drops_inside}
 use Rattle.cd_pairing.proofs.queue.drop_closed.Goals as goal
 
@@ -8,5 +8,5 @@ closed-preserved g c =
     let dropped = drops_more c.args.windows.now es c.args.waiting.now.items c.closed.waiting.items c.pop_front.new.self.items c.args.now c.closed.invariant.dropped c.closed-test.ensures c.pop_front.ensures.rest in
     record {
       dropped = dropped;
-      inside = drops_inside (length c.args.events.now) c.args.windows.now es c.args.waiting.now.items c.pop_front.new.self.items c.args.now dropped c.requires.waiting_in;
+      inside = drops_inside c.args.windows.now es c.args.waiting.now.items c.pop_front.new.self.items c.args.now dropped c.requires.waiting_in;
     }

@@ -1,5 +1,0 @@
-use Rattle.cd_ident.proofs.WeightBounds.{event_weights_are_bounded}
-use Rattle.cd_ident.proofs.law.event_weights_are_bounded.Goals as goal
-
-pub returns : goal.returns
-returns c = event_weights_are_bounded

@@ -1,5 +1,0 @@
-use Rattle.cd_ident.proofs.ExactIds.{secondaries_are_exact}
-use Rattle.cd_ident.proofs.law.secondaries_are_exact.Goals as goal
-
-pub returns : goal.returns
-returns c = secondaries_are_exact

@@ -1,0 +1,5 @@
+use Rattle.cd_ident.proofs.WeightBounds.{event_weights_are_linear}
+use Rattle.cd_ident.proofs.laws.event_weights_are_linear.Goals as goal
+
+pub returns : goal.returns
+returns c = event_weights_are_linear

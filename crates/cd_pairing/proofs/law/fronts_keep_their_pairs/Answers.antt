@@ -1,5 +1,0 @@
-use Rattle.cd_pairing.proofs.Growing.{kept}
-use Rattle.cd_pairing.proofs.law.fronts_keep_their_pairs.Goals as goal
-
-pub returns : goal.returns
-returns c = kept

@@ -1,5 +1,0 @@
-use Rattle.cd_pairing.proofs.OpenWindows.{later_waits}
-use Rattle.cd_pairing.proofs.law.later_events_wait_longer.Goals as goal
-
-pub returns : goal.returns
-returns c = later_waits

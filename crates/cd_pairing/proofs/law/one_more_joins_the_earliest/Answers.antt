@@ -1,5 +1,0 @@
-use Rattle.cd_pairing.proofs.Growing.{grown}
-use Rattle.cd_pairing.proofs.law.one_more_joins_the_earliest.Goals as goal
-
-pub returns : goal.returns
-returns c = grown

@@ -1,5 +1,0 @@
-use Rattle.cd_pairing.proofs.Sets.{matchings_are_sets}
-use Rattle.cd_pairing.proofs.law.pairings_are_sets.Goals as goal
-
-pub returns : goal.returns
-returns c = matchings_are_sets

@@ -1,7 +1,0 @@
-use Rattle.std.proofs.Common.{length}
-use Rattle.cd_pairing.specs.Pairing.{are_compatible}
-use Rattle.cd_pairing.proofs.Unique.{unique}
-use Rattle.cd_pairing.proofs.law.pairings_are_unique.Goals as goal
-
-pub returns : goal.returns
-returns c = λ windows events p q P Q. unique (are_compatible windows events) (length events) p q P Q

@@ -1,5 +1,0 @@
-use Rattle.cd_pairing.proofs.Records.{released_stay}
-use Rattle.cd_pairing.proofs.law.released_records_stay.Goals as goal
-
-pub returns : goal.returns
-returns c = released_stay

@@ -1,5 +1,0 @@
-use Rattle.cd_pairing.proofs.Settling.{settled_grows}
-use Rattle.cd_pairing.proofs.law.settled_events_stay_settled.Goals as goal
-
-pub returns : goal.returns
-returns c = settled_grows
