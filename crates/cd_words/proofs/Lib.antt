@@ -2,8 +2,6 @@ mod Numbers
 mod Cuts
 mod Intervals
 mod EachPart
-mod Reach
-mod PartsWithin
 mod Places
 mod Lines
 mod ValidParts

@@ -5,5 +5,4 @@ pub mod Options
 pub mod Compact
 pub mod Faults
 pub mod Commands
-pub mod Reaches
 pub mod Laws

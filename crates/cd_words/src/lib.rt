@@ -21,7 +21,6 @@ mod parts;
 mod setting;
 #[cfg(test)]
 mod tests;
-mod types;
 
 pub use command::{Command, read_words};
 pub use fault::WordsFault;
