@@ -1,1 +1,3 @@
-pub mod Bits
+pub mod KeyTables
+pub mod HintTables
+pub mod FlagTables

@@ -1,47 +1,47 @@
-//! A block with its tables: each value that stands in a table is told by its place there.
+//! A block with its tables: each value that stands in a table is told by its index there.
 
 use crate::stamp::Stamp;
 use crate::stats::Stats;
 use cd_name::{Blob, List};
 
 /// A question (RFC 8618 7.3.2.3.3).
-#[derive(Clone, Copy, Debug, PartialEq, Eq)]
+#[derive(Clone, Copy, Debug, PartialEq, Eq, Hash)]
 pub struct BlockQuestion {
-    /// The place of the name in `name_rdata`.
+    /// The index of the name in `name_rdata`.
     pub name: u64,
-    /// The place of the type and the class in `classtype`.
+    /// The index of the type and the class in `classtype`.
     pub classtype: u64,
 }
 
 /// A resource record (RFC 8618 7.3.2.3.4), with the TTL in seconds.
-#[derive(Clone, Copy, Debug, PartialEq, Eq)]
+#[derive(Clone, Copy, Debug, PartialEq, Eq, Hash)]
 pub struct BlockRr {
-    /// The place of the name in `name_rdata`.
+    /// The index of the name in `name_rdata`.
     pub name: u64,
-    /// The place of the type and the class in `classtype`.
+    /// The index of the type and the class in `classtype`.
     pub classtype: u64,
     pub ttl: Option<u64>,
-    /// The place of the RDATA in `name_rdata`.
+    /// The index of the RDATA in `name_rdata`.
     pub rdata: Option<u64>,
 }
 
 /// The extended part of a query or a response (RFC 8618 7.3.2.4.2). A part with no list is absent.
 #[derive(Clone, Copy, Debug, PartialEq, Eq)]
 pub struct BlockLists {
-    /// The place of the questions behind the first one, in `qlist`.
+    /// The index of the questions after the first one, in `qlist`.
     pub question: Option<u64>,
-    /// The place of the answers in `rrlist`.
+    /// The index of the answers in `rrlist`.
     pub answer: Option<u64>,
-    /// The place of the authority records in `rrlist`.
+    /// The index of the authority records in `rrlist`.
     pub authority: Option<u64>,
-    /// The place of the additional records in `rrlist`.
+    /// The index of the additional records in `rrlist`.
     pub additional: Option<u64>,
 }
 
 /// A query-response signature (RFC 8618 7.3.2.3.2).
-#[derive(Clone, Copy, Debug, PartialEq, Eq)]
+#[derive(Clone, Copy, Debug, PartialEq, Eq, Hash)]
 pub struct BlockSig {
-    /// The place of the server's address in `ip_address`.
+    /// The index of the server's address in `ip_address`.
     pub server_address: Option<u64>,
     pub server_port: Option<u16>,
     /// The version of IP and the transport, as in `flags::TRANSPORT_IPV6`.
@@ -53,7 +53,7 @@ pub struct BlockSig {
     pub dns_flags: Option<u16>,
     /// The RCODE of twelve bits of the query.
     pub query_rcode: Option<u16>,
-    /// The place of the type and the class of the lead question in `classtype`.
+    /// The index of the type and the class of the lead question in `classtype`.
     pub classtype: Option<u64>,
     /// The number of questions of the query, or else of the response.
     pub qd: Option<u16>,
@@ -66,7 +66,7 @@ pub struct BlockSig {
     pub edns_version: Option<u8>,
     /// The bytes of the largest UDP payload that the sender of the query takes.
     pub udp_size: Option<u16>,
-    /// The place of the options of the query's OPT record in `name_rdata`.
+    /// The index of the options of the query's OPT record in `name_rdata`.
     pub opt_rdata: Option<u64>,
     /// The RCODE of twelve bits of the response.
     pub response_rcode: Option<u16>,
@@ -77,22 +77,22 @@ pub struct BlockSig {
 pub struct BlockItem {
     /// Ticks since the earliest time of the block.
     pub time_offset: Option<u64>,
-    /// The place of the client's address in `ip_address`.
+    /// The index of the client's address in `ip_address`.
     pub client_address: Option<u64>,
     pub client_port: Option<u16>,
     /// The ID of the message.
     pub transaction_id: Option<u16>,
-    /// The place of the signature in `qr_sig`.
+    /// The index of the signature in `qr_sig`.
     pub signature: Option<u64>,
     /// The time to live or hop limit of the query's packet.
     pub client_hoplimit: Option<u8>,
     /// Ticks from the query to the response, fewer than 0 where the response came first.
     pub response_delay: Option<i64>,
-    /// The place of the name of the lead question in `name_rdata`.
+    /// The index of the name of the lead question in `name_rdata`.
     pub query_name: Option<u64>,
-    /// Bytes of the query's payload, with those behind its message.
+    /// Bytes of the query's payload, with those after its message.
     pub query_size: Option<u64>,
-    /// Bytes of the response's payload, with those behind its message.
+    /// Bytes of the response's payload, with those after its message.
     pub response_size: Option<u64>,
     pub query_extended: BlockLists,
     pub response_extended: BlockLists,
@@ -101,7 +101,7 @@ pub struct BlockItem {
 /// The data of a malformed message (RFC 8618 7.3.2.3.5).
 #[derive(Debug, Drop)]
 pub struct BlockData {
-    /// The place of the server's address in `ip_address`.
+    /// The index of the server's address in `ip_address`.
     pub server_address: Option<u64>,
     pub server_port: Option<u16>,
     /// The version of IP and the transport, as in `flags::TRANSPORT_IPV6`.
@@ -115,10 +115,10 @@ pub struct BlockData {
 pub struct BlockMalformed {
     /// Ticks since the earliest time of the block.
     pub time_offset: Option<u64>,
-    /// The place of the client's address in `ip_address`.
+    /// The index of the client's address in `ip_address`.
     pub client_address: Option<u64>,
     pub client_port: Option<u16>,
-    /// The place of its data in `malformed_message_data`.
+    /// The index of its data in `malformed_message_data`.
     pub message_data: Option<u64>,
 }
 
@@ -126,7 +126,7 @@ pub struct BlockMalformed {
 #[derive(Debug, Drop)]
 pub struct Block {
     pub earliest: Option<Stamp>,
-    /// The place of its block parameters in those of the file.
+    /// The index of its block parameters in those of the file.
     pub params: u64,
     pub stats: Option<Stats>,
     pub items: List<BlockItem>,
@@ -139,11 +139,11 @@ pub struct Block {
     pub name_rdata: List<Blob>,
     /// The table of signatures.
     pub qr_sig: List<BlockSig>,
-    /// The table of lists of questions, each by its place in `qrr`.
+    /// The table of lists of questions, each by its index in `qrr`.
     pub qlist: List<List<u64>>,
     /// The table of questions.
     pub qrr: List<BlockQuestion>,
-    /// The table of lists of records, each by its place in `rr`.
+    /// The table of lists of records, each by its index in `rr`.
     pub rrlist: List<List<u64>>,
     /// The table of records.
     pub rr: List<BlockRr>,

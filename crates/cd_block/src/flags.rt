@@ -17,7 +17,7 @@ pub const TRANSPORT_IPV6: u8 = 1 << 0;
 pub const TRANSPORT_UDP: u8 = 0 << 1;
 /// TCP in the bits 1 to 4.
 pub const TRANSPORT_TCP: u8 = 1 << 1;
-/// Bytes stand behind the query's message.
+/// Bytes stand after the query's message.
 pub const TRANSPORT_TRAILING_BYTES: u8 = 1 << 5;
 
 // Signature flags (RFC 8618 7.3.2.3.2).

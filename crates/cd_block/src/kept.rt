@@ -26,7 +26,7 @@ pub struct KeptRr {
 /// absent.
 #[derive(Debug, Drop)]
 pub struct KeptLists {
-    /// The questions behind the first one.
+    /// The questions after the first one.
     pub question: List<KeptQuestion>,
     pub answer: List<KeptRr>,
     pub authority: List<KeptRr>,
@@ -84,9 +84,9 @@ pub struct KeptItem {
     pub response_delay: Option<i64>,
     /// The name of the lead question: the query's first one, or else the response's.
     pub query_name: Option<Name>,
-    /// Bytes of the query's payload, with those behind its message.
+    /// Bytes of the query's payload, with those after its message.
     pub query_size: Option<u64>,
-    /// Bytes of the response's payload, with those behind its message.
+    /// Bytes of the response's payload, with those after its message.
     pub response_size: Option<u64>,
     pub query_extended: KeptLists,
     pub response_extended: KeptLists,
@@ -119,7 +119,7 @@ pub struct KeptMalformed {
 #[derive(Debug, Drop)]
 pub struct KeptBlock {
     pub earliest: Option<Stamp>,
-    /// The place of its block parameters in those of the file.
+    /// The index of its block parameters in those of the file.
     pub params: u64,
     pub stats: Option<Stats>,
     pub items: List<KeptItem>,

@@ -2,8 +2,8 @@
 //!
 //! - `Params` are the storage and the collection parameters of a file, `Hints` its storage hints.
 //! - A *kept block* has each value where it belongs: `KeptBlock`, `KeptItem`, `KeptSig` and the other types named so.
-//! - A *block* has each value once, in one of nine tables, and its place there wherever it belongs: `Block`, `BlockItem`,
-//!   `BlockSig` and the other types named so. A place counts from 0.
+//! - A *block* has each value once, in one of nine tables, and its index there wherever it belongs: `Block`, `BlockItem`,
+//!   `BlockSig` and the other types named so. An index counts from 0.
 //!
 //! A struct stands for a map of the format, and a field for the key of its name. A field that is an `Option` stands for a key
 //! that may be absent. Keys have constants in `keys`, the bits of hints in `hints`, and those
@@ -30,7 +30,7 @@ pub mod flags;
 pub mod hints;
 mod kept;
 pub mod keys;
-mod law;
+pub mod laws;
 mod params;
 mod stamp;
 mod stats;
@@ -42,7 +42,6 @@ pub use hints::Hints;
 pub use kept::{
     KeptBlock, KeptData, KeptItem, KeptLists, KeptMalformed, KeptQuestion, KeptRr, KeptSig,
 };
-pub use law::bits_are_those_of_keys;
 pub use params::Params;
 pub use stamp::Stamp;
 pub use stats::Stats;

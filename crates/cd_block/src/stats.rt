@@ -7,9 +7,9 @@ pub struct Stats {
     pub processed: u64,
     /// Query-response items of the block.
     pub items: u64,
-    /// Items that are a query with no response.
+    /// Items that are a query with no response: unmatched queries.
     pub unmatched_queries: u64,
-    /// Items that are a response with no query.
+    /// Items that are a response with no query: unmatched responses.
     pub unmatched_responses: u64,
     /// Messages that were not kept because of their opcode.
     pub discarded: u64,

@@ -1,5 +1,6 @@
 mod Ascending
-mod Listed
+pub mod Listed
+mod Reach
 mod HintBits
 mod EachOption
 mod WholeBytes

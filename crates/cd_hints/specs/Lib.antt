@@ -1,5 +1,6 @@
 pub mod Options
 pub mod Listing
+pub mod Reaches
 pub mod Settings
 pub mod Validity
 pub mod Prefix

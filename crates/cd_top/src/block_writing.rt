@@ -187,6 +187,3 @@ pub fn push_block(out: &mut Vec<u8>, block: &Block) -> Result<(), AllocError>
     push_items(out, block.items.as_slice())?;
     Ok(())
 }
-
-#[cfg(test)]
-mod tests;

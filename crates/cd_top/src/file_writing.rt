@@ -84,6 +84,3 @@ pub fn write_exchanges<K: Sink>(
         Err(fault) => Err(fault),
     }
 }
-
-#[cfg(test)]
-mod tests;

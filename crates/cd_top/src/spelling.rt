@@ -164,6 +164,3 @@ pub fn push_bytes(out: &mut Vec<u8>, content: &[u8]) -> Result<(), AllocError>
     push_head(out, BYTES, content.len() as u64)?;
     out.extend_from_slice(content)
 }
-
-#[cfg(test)]
-mod tests;

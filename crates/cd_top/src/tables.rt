@@ -114,6 +114,3 @@ pub fn tables_hold_each_value_once()
     ensures signatures_once { (values : List Sig) → AllPairs (λ a b. a ≢ b) (table_of same_sig values) }
     ensures all_signatures { (values : List Sig) (x : Sig) → Contains values x ↔ Contains (table_of same_sig values) x }
 {}
-
-#[cfg(test)]
-mod tests;

@@ -5,11 +5,11 @@ use Rattle.std.specs.List.{slice_split}
 use Rattle.cd_hints.specs.declared.interval.Interval.{Interval}
 use Rattle.cd_words.specs.Parts.{is_comma, part_of, each_part, parts_of}
 
--- parts behind others
+-- parts after others
 abbrev pub parts_with : List Interval → Option (List Interval) → Option (List Interval)
 parts_with before after = option_map (λ parts. before ++ parts) after
 
--- behind none stand all
+-- after none stand all
 pub with_none : (all : Option (List Interval)) → parts_with [] all ≡ all
 with_none None = refl
 with_none (Some parts) = refl
@@ -20,7 +20,7 @@ pub first_is_none : (range : Interval) (text before : List ℕ) (texts : List (L
 unfolding parts_of
 first_is_none range text before texts split none = rw (split, none) refl
 
--- the first part, and those behind the first comma
+-- the first part, and those after the first comma
 pub first_and_rest : (range : Interval) (text before rest : List ℕ) (part : Interval) (parts : List Interval) →
     slice_split is_comma text ≡ before ∷ slice_split is_comma rest → part_of range before ≡ Some part →
     parts_with parts (parts_of range text) ≡ parts_with (parts ++ part ∷ []) (parts_of range rest)

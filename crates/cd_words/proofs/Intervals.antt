@@ -13,7 +13,7 @@ abbrev pub part_between : Interval → Option ℕ → Bool → Option ℕ → Op
 part_between range first dash second = option_and_then (λ part. cond (is_within range part) (Some part) None)
     (option_and_then (λ least. option_map (between least) (cond dash second (Some least))) first)
 
--- a part is that of the numbers before and behind its first dash
+-- a part is that of the numbers before and after its first dash
 pub part_of_numbers : (range : Interval) (text : List ℕ) →
     part_of range text ≡ part_between range (number_of (before_first is_dash text)) (list_any is_dash text) (number_of (after_first is_dash text))
 unfolding part_of interval_of

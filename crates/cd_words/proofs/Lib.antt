@@ -2,12 +2,11 @@ mod Numbers
 mod Cuts
 mod Intervals
 mod EachPart
-mod Reach
-mod PartsWithin
 mod Places
 mod Lines
 mod ValidParts
 mod OptionNames
 mod Decimal
 mod LineOrBreak
+mod SaysOrNot
 mod OptionValues

@@ -59,9 +59,9 @@ names_none word other = by (find (λ option. bytes_eq word (word_of option)) all
     by None e = refl
     by (Some option) e = absurd (other option ((bytes_eq-Decides word (word_of option)).0 (found_passes (λ option. bytes_eq word (word_of option)) all_options option e)))
 
--- what stands behind two dashes
-behind : {xs ys : List ℕ} → 45 ∷ 45 ∷ xs ≡ 45 ∷ 45 ∷ ys → xs ≡ ys
-behind e = cc
+-- what stands after two dashes
+after_dashes : {xs ys : List ℕ} → 45 ∷ 45 ∷ xs ≡ 45 ∷ 45 ∷ ys → xs ≡ ys
+after_dashes e = cc
 
 -- a word without two dashes in front names none
 pub no_dashes : (word : List ℕ) → ((name : List ℕ) → word ≢ (45 ∷ 45 ∷ []) ++ name) → None ≡ option_named word
@@ -71,11 +71,11 @@ no_dashes word other = names_none word by
     by (Number option) e = other (name_of option) e
     by (Parts option) e = other (list_name_of option) e
 
--- nor does one behind whose dashes stands no name of an option
+-- nor does one after whose dashes stands no name of an option
 pub no_name : (word name : List ℕ) → word ≡ (45 ∷ 45 ∷ []) ++ name → ((option : NumberOption) → name_of option ≢ name) → ((option : ListOption) → list_name_of option ≢ name) →
     None ≡ option_named word
 no_name word name split numbers lists = names_none word by
   where
     by : (option : CompactOption) → word ≢ word_of option
-    by (Number option) e = numbers option (sym (behind (sym split ∙ e)))
-    by (Parts option) e = lists option (sym (behind (sym split ∙ e)))
+    by (Number option) e = numbers option (sym (after_dashes (sym split ∙ e)))
+    by (Parts option) e = lists option (sym (after_dashes (sym split ∙ e)))

@@ -9,9 +9,7 @@ use Rattle.std.proofs.lemmas.List.Folds.{list_any_none}
 use Rattle.std.proofs.lemmas.List.Recursion.{or_at}
 use Rattle.std.proofs.lemmas.Slice.Eq.{bytes_eq-Decides}
 use Rattle.std.proofs.Common.{Option, Some, None, is_some, MatchOption}
-use Rattle.cd_words.specs.declared.compact_option.CompactOption.{CompactOption}
-use Rattle.cd_words.specs.Options.{option_named}
-use Rattle.cd_words.specs.CommandLines.{word_at, NamesOption}
+use Rattle.cd_words.specs.CommandLines.{Language, word_at, NamesOption}
 
 -- other bytes differ by the test
 other_bytes : (xs ys : List ℕ) → xs ≢ ys → bytes_eq xs ys ≡ false
@@ -42,8 +40,8 @@ none_before words place below none before under same =
     false≢true (sym none ∙ some)
 
 -- what a word names, where it is none of those before it
-pub names_first : (words : List (List ℕ)) (place : ℕ) (o : Option CompactOption) → o ≡ option_named (word_at words place) →
+pub names_first : {C S : Type 0} (language : Language C S) (words : List (List ℕ)) (place : ℕ) (o : Option C) → o ≡ language.named (word_at words place) →
     ((before : ℕ) → before < place → word_at words before ≢ word_at words place) →
-    MatchOption o (¬ (NamesOption words place)) (λ option. NamesOption words place × (option_named (word_at words place) ≡ Some option))
-names_first words place None e apart = λ names. false≢true (ap is_some e ∙ names.named)
-names_first words place (Some option) e apart = (record { named = rw (← e) refl; first = apart }, sym e)
+    MatchOption o (¬ (NamesOption language words place)) (λ option. NamesOption language words place × (language.named (word_at words place) ≡ Some option))
+names_first language words place None e apart = λ names. false≢true (ap is_some e ∙ names.named)
+names_first language words place (Some option) e apart = (record { named = rw (← e) refl; first = apart }, sym e)

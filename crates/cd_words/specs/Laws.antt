@@ -4,7 +4,7 @@ use Rattle.std.specs.Fmt.{decimal}
 use Rattle.cd_words.specs.declared.compact_option.CompactOption.{CompactOption}
 use Rattle.cd_words.specs.Numbers.{number_of}
 use Rattle.cd_words.specs.Options.{word_of, option_named, Says}
-use Rattle.cd_words.specs.CommandLines.{IsCommandLine, BreaksAt}
+use Rattle.cd_words.specs.CommandLines.{Language, IsCommandLine, BreaksAt}
 
 -- bytes are a number exactly where they are what std writes of it
 abbrev pub NumbersAreDecimal : Type 0
@@ -18,13 +18,13 @@ OptionsHaveNames = (option : CompactOption) → option_named (word_of option) �
 abbrev pub OptionsHaveValues : Type 0
 OptionsHaveValues = (option : CompactOption) → (word : List ℕ) × Says option word
 
--- the words break a rule at this place and at no other, and are no command line
-pub record BreaksOnce (words : List (List ℕ)) (place : ℕ) : Type 0 where
-  pub here : BreaksAt words place
-  pub only : (other : ℕ) → BreaksAt words other → other ≡ place
-  pub outside : ¬ (IsCommandLine words)
+-- the words break a rule of a language at this place and at no other, and are no command line
+pub record BreaksOnce {C S : Type 0} (language : Language C S) (words : List (List ℕ)) (place : ℕ) : Type 0 where
+  pub here : BreaksAt language words place
+  pub only : (other : ℕ) → BreaksAt language words other → other ≡ place
+  pub outside : ¬ (IsCommandLine language words)
 
 -- words are a command line and break no rule, or break a rule at exactly one place and are none
-abbrev pub LinesOrBreaks : Type 0
-LinesOrBreaks = (words : List (List ℕ)) →
-    (IsCommandLine words × ((place : ℕ) → ¬ (BreaksAt words place))) ⊎ ((place : ℕ) × BreaksOnce words place)
+abbrev pub LinesOrBreaks : {C S : Type 0} → Language C S → Type 0
+LinesOrBreaks language = (words : List (List ℕ)) →
+    (IsCommandLine language words × ((place : ℕ) → ¬ (BreaksAt language words place))) ⊎ ((place : ℕ) × BreaksOnce language words place)

@@ -1,7 +1,8 @@
 pub mod Numbers
 pub mod Parts
-pub mod Options
-pub mod Changes
 pub mod CommandLines
-pub mod Reaches
+pub mod Options
+pub mod Compact
+pub mod Faults
+pub mod Commands
 pub mod Laws

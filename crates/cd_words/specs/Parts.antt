@@ -12,7 +12,7 @@ is_dash byte = byte == 45
 abbrev pub is_comma : ℕ → Bool
 is_comma byte = byte == 44
 
--- the numbers that a part holds: from the number before its first dash to the one behind it, or without a dash that number alone
+-- the numbers that a part holds: from the number before its first dash to the one after it, or without a dash that number alone
 unfoldable pub interval_of : List ℕ → Option Interval
 interval_of text = option_and_then (λ least. option_map (between least) (if list_any is_dash text then number_of (after_first is_dash text) else Some least))
     (number_of (before_first is_dash text))

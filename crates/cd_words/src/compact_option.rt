@@ -12,20 +12,18 @@ pub enum CompactOption {
     Parts(ListOption),
 }
 
-impl CompactOption {
-    /// The option that a word names.
-    pub fn named(word: &[u8]) -> Option<CompactOption>
-        ensures { result ≡ option_named word.now }
-    {
-        let Some(name) = word.strip_prefix(b"--") else {
-            return None;
-        };
-        if let Some(option) = NumberOption::named(name) {
-            return Some(CompactOption::Number(option));
-        }
-        match ListOption::named(name) {
-            Some(option) => Some(CompactOption::Parts(option)),
-            None => None,
-        }
+/// The option that a word names.
+pub fn named(word: &[u8]) -> Option<CompactOption>
+    ensures { result ≡ option_named word.now }
+{
+    let Some(name) = word.strip_prefix(b"--") else {
+        return None;
+    };
+    if let Some(option) = NumberOption::named(name) {
+        return Some(CompactOption::Number(option));
+    }
+    match ListOption::named(name) {
+        Some(option) => Some(CompactOption::Parts(option)),
+        None => None,
     }
 }

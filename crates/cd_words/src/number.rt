@@ -3,6 +3,7 @@
 ghost use Rattle.std.specs.Prelude.{◌≡◌, ◌^◌, ◌≤◌, IfSome, MatchOption, Some};
 ghost use Rattle.cd_words.specs.Numbers.{has_no_leading_zero, number_of};
 
+// Whether there is a byte, and the first of several is not a 0.
 fn has_no_leading_zero(text: &[u8]) -> bool
     ensures { result ≡ has_no_leading_zero text.now }
 {

@@ -11,7 +11,7 @@ use crate::number::number;
 use cd_hints::Interval;
 use std::alloc::{AllocError, Global};
 
-/// What stands before the first such byte, and what stands behind it if there is one.
+// What stands before the first such byte, and what stands after it if there is one.
 fn cut(text: &[u8], at: u8) -> (&[u8], Option<&[u8]>)
     ensures before { result.0.now ≡ before_first (λ b. b == at) text.now }
     ensures found { is_some result.1 ≡ list_any (λ b. b == at) text.now }
@@ -25,7 +25,7 @@ fn cut(text: &[u8], at: u8) -> (&[u8], Option<&[u8]>)
     }
 }
 
-/// The numbers from one to another, if there is one and all lie in the range.
+// The numbers from one to another, if there is one and all lie in the range.
 fn interval(range: Interval, least: u64, most: u64) -> Option<Interval>
     ensures { result ≡ (if is_within range (between least most) then Some (between least most) else None) }
 {
@@ -35,7 +35,7 @@ fn interval(range: Interval, least: u64, most: u64) -> Option<Interval>
     })
 }
 
-/// The numbers that a part holds, if all of them lie in the range.
+// The numbers that a part holds, if all of them lie in the range.
 fn part(range: Interval, text: &[u8]) -> Option<Interval>
     requires { range.most < 2 ^ 64 }
     ensures { result ≡ part_of range text.now }

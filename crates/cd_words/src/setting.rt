@@ -1,23 +1,20 @@
 //! What an option changes in settings.
 
-ghost use Rattle.std.specs.Prelude.{◌≡◌, ◌<◌, ◌≤◌, OnOk};
-ghost use Rattle.std.specs.List.{All};
+ghost use Rattle.std.specs.Prelude.{◌≡◌, OnOk};
 ghost use Rattle.cd_hints.specs.Validity.{IsValid};
-ghost use Rattle.cd_words.specs.Changes.{with_parts};
+ghost use Rattle.cd_words.specs.Compact.{with_parts};
 
-use crate::types::types_of;
-use cd_hints::{Interval, ListOption, Settings, opcodes_of};
+use cd_hints::{Interval, ListOption, Settings, opcodes_of, types_of};
 use std::alloc::{AllocError, Global};
 
 /// Puts the union of parts into the field that an option stands for. An `Err` is for want of memory.
-#[tactic(auto, using(crate::proofs::ValidParts::valid_parts), unfolding(crate::specs::Changes::with_parts))]
+#[tactic(auto, using(crate::proofs::ValidParts::valid_parts), unfolding(crate::specs::Compact::with_parts))]
 pub fn put_parts(
     alloc: Global,
     settings: &mut Settings,
     option: ListOption,
     parts: &[Interval],
 ) -> Result<(), AllocError>
-    requires { All (λ part. (part.least ≤ part.most) × (part.most < 65536)) parts.now }
     ensures put { OnOk result (settings.new ≡ with_parts option parts.now settings.old) }
     ensures valid { IsValid settings.old → OnOk result (IsValid settings.new) }
 {

@@ -1,6 +1,6 @@
 //! Reads and writes that fail.
 
-use super::sample::{BLOCK, HEADER, QUERY, compacted, file_with, joined, only, sound_sink};
+use super::sample::{capture, compacted, file_of, only, sound_sink};
 use crate::Status;
 use cd_name::Blob;
 use cd_ports::{MemSink, MemSource, SureSource};
@@ -9,18 +9,12 @@ use std::alloc::AllocError;
 #[test]
 fn a_read_that_fails_ends_the_run(rt: HostRuntime) -> Result<(), AllocError> {
     let alloc = rt.alloc();
-    // What is read before the fault is in the file.
-    let rows: [(&[&[u8]], u64, &[u8]); 3] = [
-        (&[&HEADER, &QUERY], 0, &[]),
-        (&[&HEADER], 1, &[]),
-        (&[&HEADER, &QUERY], 1, &BLOCK),
-    ];
-    for (pieces, call, blocks) in rows {
-        let capture = Blob::from_vec(joined(alloc, pieces)?);
-        let mut src = MemSource::new(capture, only(alloc, call)?);
+    // What is read before the fault is in the file: the first read gives all bytes.
+    for (call, count) in [(0, 0), (1, 1)] {
+        let mut src = MemSource::new(Blob::from_vec(capture(alloc, 1)?), only(alloc, call)?);
         let mut out = sound_sink(alloc);
         let status = compacted(alloc, &mut src, &mut out)?;
-        let wanted = file_with(alloc, blocks)?;
+        let wanted = file_of(alloc, capture(alloc, count)?)?;
         assert!(rt; status == Status::ReadFault, "at {call}");
         assert!(rt; out.contents() == wanted.as_slice(), "at {call}");
     }
@@ -30,18 +24,18 @@ fn a_read_that_fails_ends_the_run(rt: HostRuntime) -> Result<(), AllocError> {
 #[test]
 fn a_write_that_fails_leaves_a_prefix(rt: HostRuntime) -> Result<(), AllocError> {
     let alloc = rt.alloc();
-    let wanted = file_with(alloc, &BLOCK)?;
-    // The pieces have 60, 91 and 1 bytes.
+    let wanted = file_of(alloc, capture(alloc, 1)?)?;
+    let last = wanted.len().saturating_sub(1);
+    // The file is written in three pieces: 60 bytes, the block, and one byte.
     for (call, keep, held) in [
         (0, 0, 0),
         (0, 5, 5),
         (1, 0, 60),
         (1, 5, 65),
-        (2, 0, 151),
-        (2, 5, 152),
+        (2, 0, last),
+        (2, 5, wanted.len()),
     ] {
-        let capture = Blob::from_vec(joined(alloc, &[&HEADER, &QUERY])?);
-        let mut src = SureSource::new(capture);
+        let mut src = SureSource::new(Blob::from_vec(capture(alloc, 1)?));
         let mut out = MemSink::new(alloc, only(alloc, call)?, keep);
         let status = compacted(alloc, &mut src, &mut out)?;
         assert!(rt; status == Status::WriteFault, "at {call} with {keep}");
@@ -54,8 +48,7 @@ fn a_write_that_fails_leaves_a_prefix(rt: HostRuntime) -> Result<(), AllocError>
 #[test]
 fn a_write_fault_outranks_a_read_fault(rt: HostRuntime) -> Result<(), AllocError> {
     let alloc = rt.alloc();
-    let capture = Blob::from_vec(joined(alloc, &[&HEADER, &QUERY])?);
-    let mut src = MemSource::new(capture, only(alloc, 1)?);
+    let mut src = MemSource::new(Blob::from_vec(capture(alloc, 1)?), only(alloc, 1)?);
     let mut out = MemSink::new(alloc, only(alloc, 1)?, 0);
     let status = compacted(alloc, &mut src, &mut out)?;
     assert!(rt; status == Status::WriteFault);

@@ -23,8 +23,8 @@ returns-in-Some-number c =
     let text = c.args.text.now in
     let least : number_of (before_first is_dash text) ≡ Some c.in-Some.least = rw c.cut.ensures.before at c.in-Some.ensures in
     let dash : list_any is_dash text ≡ true = sym c.cut.ensures.found ∙ ap is_some c.in-Some-after.is in
-    let behind : c.in-Some-after.after.now ≡ after_first is_dash text = rw c.in-Some-after.is at c.cut.ensures.after in
-    let most : number_of (after_first is_dash text) ≡ Some c.in-Some-number.most = rw behind at c.in-Some-number.ensures in
+    let rest : c.in-Some-after.after.now ≡ after_first is_dash text = rw c.in-Some-after.is at c.cut.ensures.after in
+    let most : number_of (after_first is_dash text) ≡ Some c.in-Some-number.most = rw rest at c.in-Some-number.ensures in
     rw (part_of_numbers, least, dash, most) c.interval-in-Some-number.ensures
 
 pub returns-in-None : goal.returns-in-None
@@ -32,6 +32,6 @@ returns-in-None c =
     let text = c.args.text.now in
     let least : number_of (before_first is_dash text) ≡ Some c.in-Some.least = rw c.cut.ensures.before at c.in-Some.ensures in
     let dash : list_any is_dash text ≡ true = sym c.cut.ensures.found ∙ ap is_some c.in-Some-after.is in
-    let behind : c.in-Some-after.after.now ≡ after_first is_dash text = rw c.in-Some-after.is at c.cut.ensures.after in
-    let great : IfSome (number_of (after_first is_dash text)) (λ n. 2 ^ 64 ≤ n) = rw behind at c.in-None.ensures in
+    let rest : c.in-Some-after.after.now ≡ after_first is_dash text = rw c.in-Some-after.is at c.cut.ensures.after in
+    let great : IfSome (number_of (after_first is_dash text)) (λ n. 2 ^ 64 ≤ n) = rw rest at c.in-None.ensures in
     rw (part_of_numbers, least, dash) (sym (no_second c.args.range c.in-Some.least (number_of (after_first is_dash text)) c.requires great))

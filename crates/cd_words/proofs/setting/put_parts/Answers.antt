@@ -1,5 +1,5 @@
 use Rattle.cd_hints.specs.declared.options.ListOption.TheVariants.{RrTypes}
-use Rattle.cd_words.specs.Changes.{with_parts}
+use Rattle.cd_words.specs.Compact.{with_parts}
 use Rattle.cd_words.proofs.ValidParts.{valid_parts}
 use Rattle.cd_words.proofs.setting.put_parts.Goals as goal
 

@@ -1,0 +1,56 @@
+-- A word says a value of an option of `compact` or does not.
+use Rattle.std.proofs.Common.{◌≡◌, ◌≢◌, ℕ, ◌<◌, ◌≤◌, ◌⊎◌, inl, inr, leb, true, false, List, Option, Some, None, IsSome, IsSomeAnd, refl, arith}
+use Rattle.std.specs.Int.{bit_at}
+use Rattle.std.proofs.lemmas.Bool.{false≢true}
+use Rattle.std.proofs.lemmas.Bool.Decides.{eqb_tells, leb_tells}
+use Rattle.cd_hints.specs.declared.interval.Interval.{Interval}
+use Rattle.cd_hints.specs.declared.options.NumberOption.{NumberOption}
+use Rattle.cd_hints.specs.declared.options.NumberOption.TheVariants.{Ticks, QrHints, SigHints}
+use Rattle.cd_hints.specs.Options.{Admits, IsAllowed, option_range, list_range}
+use Rattle.cd_words.specs.declared.compact_option.CompactOption.{CompactOption}
+use Rattle.cd_words.specs.declared.compact_option.CompactOption.TheVariants.{Number, Parts}
+use Rattle.cd_words.specs.Numbers.{number_of}
+use Rattle.cd_words.specs.Parts.{parts_of}
+use Rattle.cd_words.specs.Options.{Says}
+
+-- two numbers are equal or not
+equal_or_not : (a b : ℕ) → (a ≡ b) ⊎ (a ≢ b)
+equal_or_not a b = elim (eqb_tells a b) [ inl h ↦ inl h.1 | inr h ↦ inr h.1 ]
+
+-- one of two facts holds or none
+either_or_not : (A B : Type 0) → A ⊎ ¬ A → B ⊎ ¬ B → (A ⊎ B) ⊎ ¬ (A ⊎ B)
+either_or_not A B (inl a) b = inl (inl a)
+either_or_not A B (inr a) (inl b) = inl (inr b)
+either_or_not A B (inr a) (inr b) = inr (λ h. elim h [ inl x ↦ a x | inr y ↦ b y ])
+
+-- what a range does not say of a number holds or not
+allowed_or_not : (option : NumberOption) (n : ℕ) → IsAllowed option n ⊎ ¬ (IsAllowed option n)
+allowed_or_not Ticks n = either_or_not (n ≡ 1000000) (n ≡ 1000000000) (equal_or_not n 1000000) (equal_or_not n 1000000000)
+allowed_or_not QrHints n = equal_or_not (bit_at n 10) 0
+allowed_or_not SigHints n = equal_or_not (bit_at n 3) 0
+allowed_or_not _ n = inl tt
+
+-- an option may say a number or not
+admits_or_not : (option : NumberOption) (n : ℕ) → Admits option n ⊎ ¬ (Admits option n)
+admits_or_not option n = by (leb_tells (option_range option).least n) (leb_tells n (option_range option).most) (allowed_or_not option n)
+  where
+    by : ((leb (option_range option).least n ≡ true) × ((option_range option).least ≤ n)) ⊎ ((leb (option_range option).least n ≡ false) × (n < (option_range option).least)) →
+        ((leb n (option_range option).most ≡ true) × (n ≤ (option_range option).most)) ⊎ ((leb n (option_range option).most ≡ false) × ((option_range option).most < n)) →
+        IsAllowed option n ⊎ ¬ (IsAllowed option n) → Admits option n ⊎ ¬ (Admits option n)
+    by (inl least) (inl most) (inl allowed) = inl (record { least = least.1; most = most.1; allowed = allowed })
+    by (inl least) (inl most) (inr other) = inr (λ a. other a.allowed)
+    by (inl least) (inr above) allowed = inr (λ a. absurd (omega (arith, above.1, a.most)))
+    by (inr below) most allowed = inr (λ a. absurd (omega (arith, below.1, a.least)))
+
+-- a word says a value of an option or not
+pub says_or_not : (option : CompactOption) (word : List ℕ) → Says option word ⊎ ¬ (Says option word)
+says_or_not (Number option) word = by (number_of word)
+  where
+    by : (o : Option ℕ) → IsSomeAnd o (Admits option) ⊎ ¬ (IsSomeAnd o (Admits option))
+    by None = inr (λ h. h)
+    by (Some n) = admits_or_not option n
+says_or_not (Parts option) word = by (parts_of (list_range option) word)
+  where
+    by : (o : Option (List Interval)) → IsSome o ⊎ ¬ (IsSome o)
+    by None = inr (λ h. false≢true h)
+    by (Some parts) = inl refl

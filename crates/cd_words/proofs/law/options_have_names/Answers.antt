@@ -1,5 +1,0 @@
-use Rattle.cd_words.proofs.OptionNames.{options_named}
-use Rattle.cd_words.proofs.law.options_have_names.Goals as goal
-
-pub returns : goal.returns
-returns c = options_named

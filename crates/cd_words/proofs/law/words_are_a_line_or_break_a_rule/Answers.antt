@@ -1,5 +1,0 @@
-use Rattle.cd_words.proofs.LineOrBreak.{line_or_break}
-use Rattle.cd_words.proofs.law.words_are_a_line_or_break_a_rule.Goals as goal
-
-pub returns : goal.returns
-returns c = line_or_break

@@ -1,0 +1,65 @@
+//! The language of `compact`.
+
+ghost use Rattle.std.specs.Prelude.{◌≡◌, IfOk, OnOk};
+ghost use Rattle.std.specs.Bool.{MatchBool};
+ghost use Rattle.cd_hints.specs.Validity.{IsValid};
+ghost use Rattle.cd_words.specs.Options.{Says};
+ghost use Rattle.cd_words.specs.Compact.{compact, with_value};
+
+use crate::compact_option::{CompactOption, named};
+use crate::language::CommandOption;
+use crate::number::number;
+use crate::parts::parts;
+use crate::setting::put_parts;
+use cd_hints::{Settings, default_settings};
+use std::alloc::{AllocError, Global};
+
+// Gives an option the value that a word says, and tells whether it says one. Where it says none, nothing changes.
+fn put(
+    alloc: Global,
+    settings: &mut Settings,
+    option: CompactOption,
+    word: &[u8],
+) -> Result<bool, AllocError>
+    ensures value { IfOk result (λ says. MatchBool says
+        (Says option word.now × (settings.new ≡ with_value option word.now settings.old))
+        (¬ (Says option word.now))) }
+    ensures valid { IsValid settings.old → OnOk result (IsValid settings.new) }
+{
+    match option {
+        CompactOption::Number(option) => match number(word) {
+            Some(number) if option.admits(number) => {
+                settings.put(option, number);
+                Ok(true)
+            }
+            _ => Ok(false),
+        },
+        CompactOption::Parts(option) => match parts(alloc, option.range(), word)? {
+            Some(parts) => {
+                put_parts(alloc, settings, option, &parts)?;
+                Ok(true)
+            }
+            None => Ok(false),
+        },
+    }
+}
+
+impl CommandOption for CompactOption {
+    type Settings = Settings;
+
+    ghost language = { compact };
+
+    ghost is_valid = { IsValid };
+
+    fn defaults(alloc: Global) -> Result<Settings, AllocError> {
+        default_settings(alloc)
+    }
+
+    fn named(word: &[u8]) -> Option<CompactOption> {
+        named(word)
+    }
+
+    fn put(self, alloc: Global, settings: &mut Settings, word: &[u8]) -> Result<bool, AllocError> {
+        put(alloc, settings, self, word)
+    }
+}
