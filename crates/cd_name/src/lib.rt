@@ -28,6 +28,7 @@ mod name_writer;
 #[cfg(test)]
 mod name_writer_tests;
 mod piece;
+mod shared_suffix;
 #[cfg(test)]
 mod tests;
 
