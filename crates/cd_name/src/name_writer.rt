@@ -7,13 +7,11 @@ ghost use Rattle.cd_name.specs.WrittenNames.{Suffix, Writes, name_piece, least_o
 
 use crate::blob::Blob;
 use crate::name::Name;
+use crate::piece::FIRST_BEYOND;
 use crate::shared_suffix::SharedSuffix;
 use indexmap::IndexMap;
 use std::alloc::{AllocError, Global};
 use std::marker::Model;
-
-/// The first offset to which no pointer leads: pointers have 14 bits (RFC 1035 4.1.4).
-const FIRST_BEYOND: usize = 16384;
 
 /// Writes the names of one message, each with a pointer to the longest of its suffixes that was written before. Contracts see it
 /// as the suffixes that stand in the message below offset 16,384, each with its offset, in the order in which they were written.
