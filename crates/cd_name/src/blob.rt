@@ -56,7 +56,7 @@ impl Blob {
         self.bytes.truncate(len);
     }
 
-    /// Puts another byte in the place of the one at an offset.
+    /// Replaces the byte at an offset.
     pub fn set(&mut self, at: usize, byte: u8)
         requires { at < length self.old }
         ensures { self.new ≡ slice_set self.old at byte }

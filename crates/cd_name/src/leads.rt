@@ -3,14 +3,11 @@
 ghost use Rattle.std.specs.Prelude.{◌≡◌, ◌≤◌, length};
 ghost use Rattle.cd_name.specs.Leads.{LeadsTo, AreOwnOffsets};
 
-use crate::piece::{Piece, piece_at};
+use crate::piece::{FIRST_BEYOND, Piece, piece_at};
 use std::alloc::Global;
 use std::marker::Model;
 
-/// The first offset to which no pointer leads: pointers have 14 bits (RFC 1035 4.1.4).
-const FIRST_BEYOND: usize = 16384;
-
-/// So many pointers to pointers are followed before a table of them is worth its memory.
+// So many pointers to pointers are followed before a table of them is worth its memory.
 const FEW_HOPS: usize = 100;
 
 /// Follows the pointers of one payload that lead to pointers. Contracts see it as the bytes of the payload.
@@ -148,7 +145,7 @@ impl<'p> Leads<'p> {
     }
 }
 
-/// The first offsets, each at its own index: as many as are asked for, or fewer where memory is scarce.
+// The first offsets, each at its own index: as many as are asked for, or fewer where memory is scarce.
 fn own_offsets(alloc: Global, size: usize) -> Vec<u16>
     requires { size ≤ 16384 }
     ensures few { length result.items ≤ 16384 }

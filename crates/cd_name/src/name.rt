@@ -53,7 +53,7 @@ impl Name {
 }
 
 /// The greatest number of bytes of a name (RFC 1035 3.1).
-const MAX_NAME: usize = 255;
+pub(crate) const MAX_NAME: usize = 255;
 
 /// The number of bytes of the name without pointers that some bytes begin with, if they begin with one (RFC 1035 3.1).
 pub fn name_size(bytes: &[u8]) -> Option<usize>
@@ -81,7 +81,7 @@ pub fn is_name(bytes: &[u8]) -> bool
     name_size(bytes) == Some(bytes.len())
 }
 
-/// The bytes in lower case: 0x41 to 0x5a become 0x61 to 0x7a, and the others stay.
+// The bytes in lower case: 0x41 to 0x5a become 0x61 to 0x7a, and the others stay.
 fn lower_case_bytes(alloc: Global, bytes: &[u8]) -> Result<Vec<u8>, AllocError>
     ensures { IfOk result (λ v. v.items ≡ map lower_case bytes.now) }
 {

@@ -6,20 +6,18 @@ ghost use Rattle.cd_name.specs.NameGiving.{Walks};
 
 use crate::fault::NameWhy;
 use crate::leads::Leads;
+use crate::name::MAX_NAME;
 use crate::piece::{Piece, piece_at};
 use arrayvec::ArrayVec;
 
-/// The greatest number of bytes of a name's labels, with the length byte of each (RFC 1035 3.1).
-const MAX_LABELS: usize = 254;
-
 /// Gives the bytes of the name at an offset, without pointers, and the offset after its own bytes.
-pub(crate) fn walk(leads: &mut Leads, at: usize) -> Result<(ArrayVec<u8, 255>, usize), NameWhy>
+pub(crate) fn walk(leads: &mut Leads, at: usize) -> Result<(ArrayVec<u8, MAX_NAME>, usize), NameWhy>
     ensures read { Walks result (name_at leads.old at) }
     ensures within { IfOk result (λ r. (at < r.1) × (r.1 ≤ length leads.old)) }
     ensures same { leads.new ≡ leads.old }
 {
     let payload = leads.payload();
-    let mut name: ArrayVec<u8, 255> = ArrayVec::new();
+    let mut name: ArrayVec<u8, MAX_NAME> = ArrayVec::new();
     let mut start = at;
     let mut here = at;
     let mut next: Option<usize> = None;
@@ -30,7 +28,7 @@ pub(crate) fn walk(leads: &mut Leads, at: usize) -> Result<(ArrayVec<u8, 255>, u
                 return Ok((name, next.unwrap_or(here + 1)));
             }
             Piece::Label(size) => {
-                if name.len() + size + 1 > MAX_LABELS {
+                if name.len() + size + 1 >= MAX_NAME {
                     return Err(NameWhy::LongName);
                 }
                 let end = here + size + 1;

@@ -22,6 +22,9 @@ pub(crate) const MAX_LABEL: usize = 63;
 /// The least length byte that begins a pointer.
 pub(crate) const FIRST_POINTER: usize = 192;
 
+/// The first offset to which no pointer leads: pointers have 14 bits (RFC 1035 4.1.4).
+pub(crate) const FIRST_BEYOND: usize = 16384;
+
 /// What stands at an offset, in a run of labels that begins at `start`.
 pub(crate) fn piece_at(payload: &[u8], start: usize, at: usize) -> Piece
     ensures { IsPieceAt payload.now start at result }

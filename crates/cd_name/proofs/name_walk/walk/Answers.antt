@@ -24,7 +24,7 @@ pieces-preserved-in-Label c =
     record {
       same = i.same;
       are_labels = subst AreLabels (sym new) (labels_with_label_at p _ c.pieces.here c.in-Label.size i.are_labels l.0 l.1 l.2 l.3);
-      short = omega (arith, c.len.ensures.value, c.in-Ok.ensures.len, size, c.if-len-size-gt-MAX_LABELS.false);
+      short = omega (arith, c.len.ensures.value, c.in-Ok.ensures.len, size, c.if-len-size-ge-MAX_NAME.false);
       within = end_within_later c.args.at c.pieces.here (c.pieces.here + c.in-Label.size + 1) (length p) c.pieces.next (omega arith) i.within;
       reads = label_step p _ _ c.pieces.next c.args.at c.pieces.start c.pieces.here c.in-Label.size new i.reads l.4;
     }
