@@ -3,9 +3,13 @@ use cd_packet::{Addr, Dgram};
 use cd_pairing::{Keyed, Side};
 use std::alloc::{AllocError, Global};
 
-// A question for A of type NS (2) and class CH (3), and the header of a response without one.
+// A query with a question for A of type NS (2) and class CH (3).
 const QUERY: &[u8] = b"\x1a\x2b\x00\x00\x00\x01\x00\x00\x00\x00\x00\x00\x01A\x00\x00\x02\x00\x03";
 
+// The secondary of this question.
+const SECONDARY: &[u8] = b"\x01a\x00\x00\x02\x00\x03";
+
+// The header of a response with no question.
 const RESPONSE: &[u8] = b"\x1a\x2b\x80\x00\x00\x00\x00\x00\x00\x00\x00\x00";
 
 // The event of a payload of at most 100 bytes that is sent from one port to another of one host.
@@ -44,7 +48,7 @@ fn a_response_has_the_identifiers_of_its_query(rt: HostRuntime) -> Result<(), Al
     assert!(rt; compatible_ids(&query.ids, &response.ids));
     assert_eq!(rt; query.ids.transport(), 0);
     match &query.ids.secondary {
-        Some(secondary) => assert!(rt; secondary.as_slice() == b"\x01a\x00\x00\x02\x00\x03"),
+        Some(secondary) => assert!(rt; secondary.as_slice() == SECONDARY),
         None => assert!(rt; false),
     }
     assert_eq!(rt; keys(&query), (Side::Query, 307));
