@@ -5,8 +5,8 @@ ghost use Rattle.cd_name.specs.Names;
 
 use crate::piece::{FIRST_POINTER, MAX_LABEL};
 
-/// Whether the bytes end before the run of labels at an offset does: before its root, within a label or within the pointer
-/// that ends it. A run that a length byte of 64 to 191 ends is not cut.
+/// Whether the bytes end before the run of labels at an offset does: before its root, within a label or within the
+/// pointer that ends it. A run that a length byte of 64 to 191 ends is not cut.
 pub fn run_is_cut(payload: &[u8], at: usize) -> bool
     ensures { result ≡ Names.run_is_cut payload.now at }
 {

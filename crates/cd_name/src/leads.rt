@@ -12,8 +12,8 @@ const FEW_HOPS: usize = 100;
 
 /// Follows the pointers of one payload that lead to pointers. Contracts see it as the bytes of the payload.
 ///
-/// Usual messages have hardly any. Once there were more than some 100, it keeps a table of where each offset leads in the end, so
-/// that each of them is followed a bounded number of times.
+/// Usual messages have hardly any. Once there were more than some 100, it keeps a table of where each offset leads in
+/// the end, so that each of them is followed a bounded number of times.
 #[derive(Drop)]
 pub(crate) struct Leads<'p> {
     payload: &'p [u8],

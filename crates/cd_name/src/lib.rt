@@ -1,15 +1,17 @@
 //! Names, and the small containers that contracts see as lists.
 //!
-//! - A *label* is 1 to 63 bytes after a byte with their number; a *name* is labels and the root, a byte 0, in 1 to 255 bytes.
-//! - A *pointer* stands in a message for the rest of a name; `read_name` follows it. A *run* is the labels up to a root or a pointer.
-//! - A `NameReader` reads the names of one message, and a `NameWriter` writes those of another, each with a pointer to the longest
-//!   of its suffixes that was written before.
+//! - A *label* is 1 to 63 bytes after a byte with their number; a *name* is labels and the root, a byte 0, in 1 to
+//!   255 bytes.
+//! - A *pointer* stands in a message for the rest of a name; `read_name` follows it. A *run* is the labels up to a
+//!   root or a pointer.
+//! - A `NameReader` reads the names of one message, and a `NameWriter` writes those of another, each with a pointer
+//!   to the longest of its suffixes that was written before.
 //! - A `Name` is a name without pointers. `fold` turns its letters to lower case, so that equal names have equal bytes.
-//! - A `Blob` is some bytes on the heap, a `List<T>` some items. In a clause either one is the list of what it holds, so two
-//!   are equal where they hold the same, whatever their room.
+//! - A `Blob` is some bytes on the heap, a `List<T>` some items. In a clause either one is the list of what it holds,
+//!   so two are equal where they hold the same, whatever their room.
 //!
-//! In a message whose byte 12 begins the name `7 example 3 com 0`, the bytes `3 www 192 12` are the label `www` and a pointer to
-//! offset 12, together the name `3 www 7 example 3 com 0`:
+//! In a message whose byte 12 begins the name `7 example 3 com 0`, the bytes `3 www 192 12` are the label `www` and a
+//! pointer to offset 12, together the name `3 www 7 example 3 com 0`:
 //!
 //! ```text
 //! let mut reader = NameReader::new(alloc, message);

@@ -34,7 +34,8 @@ impl Name {
         Name { bytes }
     }
 
-    /// The name of some bytes, which it copies. `is_name` tells whether bytes are a name. An `Err` is for want of memory.
+    /// The name of some bytes, which it copies. `is_name` tells whether bytes are a name. An `Err` is for want of
+    /// memory.
     pub fn from_slice(alloc: Global, bytes: &[u8]) -> Result<Name, AllocError>
         requires { IsName bytes.now }
         ensures { IfOk result (λ n. n ≡ bytes.now) }
@@ -73,8 +74,8 @@ pub fn name_size(bytes: &[u8]) -> Option<usize>
     None
 }
 
-/// Whether the bytes are a name without pointers: labels of 1 to 63 bytes, each after its length byte, and the root as the
-/// last byte, in 1 to 255 bytes (RFC 1035 3.1).
+/// Whether the bytes are a name without pointers: labels of 1 to 63 bytes, each after its length byte, and the root as
+/// the last byte, in 1 to 255 bytes (RFC 1035 3.1).
 pub fn is_name(bytes: &[u8]) -> bool
     ensures { IsTrue result ↔ IsName bytes.now }
 {
@@ -91,8 +92,9 @@ fn lower_case_bytes(alloc: Global, bytes: &[u8]) -> Result<Vec<u8>, AllocError>
         .collect(alloc)
 }
 
-/// The name in lower case: its bytes 0x41 to 0x5a become 0x61 to 0x7a, and the others stay, so that names that differ only in
-/// case have equal bytes (RFC 1035 2.3.3). Length bytes are below 0x40 and stay. An `Err` is for want of memory.
+/// The name in lower case: its bytes 0x41 to 0x5a become 0x61 to 0x7a, and the others stay, so that names that differ
+/// only in case have equal bytes (RFC 1035 2.3.3). Length bytes are below 0x40 and stay. An `Err` is for want of
+/// memory.
 pub fn fold(alloc: Global, name: &Name) -> Result<Name, AllocError>
     ensures { IfOk result (λ f. f ≡ map lower_case name.now) }
 {

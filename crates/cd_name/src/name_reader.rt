@@ -13,11 +13,11 @@ use std::marker::Model;
 
 /// Reads the names of one payload, each at its offset. Contracts see it as the bytes of the payload.
 ///
-/// To read a name takes at most one step for each of its labels, which are at most 127, and two for each pointer between them.
-/// A pointer that leads to a pointer is followed on to where that one leads. Once some 100 were, a table keeps where each
-/// offset below 16,384 leads, so that each of them is followed on at most twice more, however many names lead to it. So the
-/// steps of a message are bounded by a small multiple of its size. Where no memory is found for the table, names are read
-/// without it.
+/// To read a name takes at most one step for each of its labels, which are at most 127, and two for each pointer
+/// between them. A pointer that leads to a pointer is followed on to where that one leads. Once some 100 were, a table
+/// keeps where each offset below 16,384 leads, so that each of them is followed on at most twice more, however many
+/// names lead to it. So the steps of a message are bounded by a small multiple of its size. Where no memory is found
+/// for the table, names are read without it.
 #[derive(Drop)]
 pub struct NameReader<'p> {
     leads: Leads<'p>,
@@ -50,8 +50,8 @@ impl<'p> NameReader<'p> {
         self.leads.payload()
     }
 
-    /// Appends the name at an offset to some bytes, without pointers, and gives the offset after its own bytes, by the rules of
-    /// `append_name`. An `Err` leaves the bytes as they were.
+    /// Appends the name at an offset to some bytes, without pointers, and gives the offset after its own bytes, by the
+    /// rules of `append_name`. An `Err` leaves the bytes as they were.
     pub fn append(&mut self, bytes: &mut Vec<u8>, at: usize) -> Result<usize, NameFault>
         ensures read { AppendsName bytes.old.items bytes.new.items result (name_at self.old at) }
         ensures within { IfOk result (λ next. (at < next) × (next ≤ length self.old)) }
@@ -67,8 +67,8 @@ impl<'p> NameReader<'p> {
         }
     }
 
-    /// Reads the name at an offset, and gives the offset after its own bytes, by the rules of `append_name`. The name has
-    /// memory for its bytes and no more.
+    /// Reads the name at an offset, and gives the offset after its own bytes, by the rules of `append_name`. The name
+    /// has memory for its bytes and no more.
     pub fn read(&mut self, at: usize) -> Result<(Name, usize), NameFault>
         ensures read { GivesName result (name_at self.old at) }
         ensures within { IfOk result (λ r. (at < r.1) × (r.1 ≤ length self.old)) }

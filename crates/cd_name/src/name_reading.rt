@@ -9,13 +9,14 @@ use crate::name::Name;
 use crate::name_reader::NameReader;
 use std::alloc::Global;
 
-/// Appends the name at an offset to some bytes, without pointers, and gives the offset after its own bytes: after its root,
-/// or after its first pointer. The bytes that were there stay, and an `Err` leaves them as they were.
+/// Appends the name at an offset to some bytes, without pointers, and gives the offset after its own bytes: after its
+/// root, or after its first pointer. The bytes that were there stay, and an `Err` leaves them as they were.
 ///
 /// Labels are read from left to right, and the first rule that is broken is the fault (RFC 1035 3.1, 4.1.4):
-/// - a length byte 0 is the root, which ends the name, and 1 to 63 begin a label with so many bytes; 64 to 191 are `Label`;
-/// - 192 to 255 begin a pointer of 14 bits: a target at or past the start of the present run of labels is `Pointer`, else a
-///   new run begins at the target;
+/// - a length byte 0 is the root, which ends the name, and 1 to 63 begin a label with so many bytes; 64 to 191 are
+///   `Label`;
+/// - 192 to 255 begin a pointer of 14 bits: a target at or past the start of the present run of labels is `Pointer`,
+///   else a new run begins at the target;
 /// - a label whose bytes are there, and with which the labels and the root have more than 255 bytes, is `LongName`;
 /// - missing bytes are `Short`.
 ///

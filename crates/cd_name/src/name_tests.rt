@@ -4,7 +4,8 @@ use crate::{
 };
 use std::alloc::{AllocError, Global};
 
-// A message of 12 bytes 0, a root, and so many pointers: the first to the root, and each later one to the one before it.
+// A message of 12 bytes 0, a root, and so many pointers: the first to the root, and each later one to the one before
+// it.
 fn chain_of_pointers(alloc: Global, count: u16) -> Result<Vec<u8>, AllocError> {
     let mut bytes = Vec::from_slice(alloc, &[0; 13])?;
     for k in 0..count.min(4000) {

@@ -13,8 +13,9 @@ use indexmap::IndexMap;
 use std::alloc::{AllocError, Global};
 use std::marker::Model;
 
-/// Writes the names of one message, each with a pointer to the longest of its suffixes that was written before. Contracts see it
-/// as the suffixes that stand in the message below offset 16,384, each with its offset, in the order in which they were written.
+/// Writes the names of one message, each with a pointer to the longest of its suffixes that was written before.
+/// Contracts see it as the suffixes that stand in the message below offset 16,384, each with its offset, in the order
+/// in which they were written.
 #[derive(Drop)]
 pub struct NameWriter {
     // The suffixes, each with its offset. Those of one name share its bytes.
@@ -46,9 +47,9 @@ impl NameWriter {
         }
     }
 
-    /// Appends a name to the message that this writer is for: the labels before the longest of its suffixes that was written below
-    /// offset 16,384, and a pointer to the least offset of that; or all of it (RFC 1035 4.1.4). Bytes are compared as they are.
-    /// For want of memory neither the message nor the writer changes.
+    /// Appends a name to the message that this writer is for: the labels before the longest of its suffixes that was
+    /// written below offset 16,384, and a pointer to the least offset of that; or all of it (RFC 1035 4.1.4). Bytes are
+    /// compared as they are. For want of memory neither the message nor the writer changes.
     pub fn put(&mut self, message: &mut Blob, name: &Name) -> Result<(), AllocError>
         ensures ok { OnOk result (Writes (name_piece name.now) message.old self.old message.new self.new) }
         ensures err_message { OnErr result (message.new ≡ message.old) }

@@ -1,4 +1,4 @@
-use Rattle.std.proofs.Common.{◌≤◌, ◌≡◌, length}
+use Rattle.std.proofs.Common.{◌≡◌, length}
 use Rattle.cd_name.specs.Leads.{AreOwnOffsets}
 use Rattle.cd_name.proofs.leads.own_offsets.Given as goal
 
