@@ -36,7 +36,7 @@ fn opt_ref_of_record(opt: &Rr) -> OptRef<'_>
     }
 }
 
-/// What a message's OPT record means, if it has one, with the options borrowed from the message (RFC 6891 6.1.2, 6.1.3).
+/// What a message's OPT record means, if it has one, the options borrowed from the message (RFC 6891 6.1.2, 6.1.3).
 pub fn opt_ref(message: &Message) -> Option<OptRef<'_>>
     ensures exact { option_map opt_seen result ≡ opt_of_message message.now }
     ensures none { IsNone result ↔ HasNoOpt message.now }
@@ -62,8 +62,8 @@ pub fn opt_of(alloc: Global, message: &Message) -> Result<Option<Opt>, AllocErro
     }
 }
 
-/// The RCODE of a message, 0 to 4095: the low four bits of `bits` and, above them, the eight bits of the OPT record, if there is one
-/// (RFC 6891 6.1.3).
+/// The RCODE of a message, 0 to 4095: the low four bits of `bits` and, above them, the eight bits of the OPT record,
+/// if there is one (RFC 6891 6.1.3).
 pub fn full_rcode(message: &Message) -> u16
     requires { Valid message.now }
     ensures { result ≡ full_rcode_of message.now }

@@ -1,4 +1,4 @@
--- DNS messages (RFC 1035 section 4, RFC 6891 section 6), read from left to right: the first rule that is broken is the answer.
+-- DNS messages (RFC 1035 section 4, RFC 6891 section 6), read from left to right: the first rule broken is the answer.
 use Rattle.std.specs.Prelude.{◌≡◌, ℕ, ◌+◌, ◌-◌, nat_lt, nat_eq, Bool, true, false, ◌&&◌, not, List, [], ◌++◌, length, take, drop, if◌then◌else◌, Option, Some, None, Result, Ok, Err}
 use Rattle.std.specs.List.{concat}
 use Rattle.cd_bytes.specs.Numbers.{be16, be32}
@@ -50,7 +50,7 @@ question_at payload at = do
   if nat_lt (length payload) (name.1 + 4) then Err Short
       else Ok (record { name = name.0; rtype = be16 name.1 payload; rclass = be16 (name.1 + 2) payload }, name.1 + 4)
 
--- The name at an offset in RDATA that ends at `end`: its first run stands within the RDATA, the runs that its pointers lead to stand anywhere.
+-- The name at an offset in RDATA that ends at `end`: its first run stands within the RDATA, later runs anywhere.
 unfoldable pub rdata_name : List ℕ → ℕ → ℕ → Result (List ℕ × ℕ) MsgWhy
 rdata_name payload end at =
     if run_is_cut (take end payload) at then name_reading rdata_why_of (name_at (take end payload) at) else name_in payload at
@@ -76,11 +76,11 @@ rdata_of_shape (Some s) payload at end =
 unfoldable pub rdata_at : ℕ → List ℕ → ℕ → ℕ → Result (List ℕ) MsgWhy
 rdata_at rtype payload at end = if nat_eq at end then Ok [] else rdata_of_shape (shape_of rtype) payload at end
 
--- An OPT record stands where one is allowed, and its owner is the root, which alone has one byte (RFC 6891 6.1.1, 6.1.2).
+-- An OPT record stands where one is allowed, and its owner is the root, of one byte (RFC 6891 6.1.1, 6.1.2).
 abbrev pub breaks_opt_rule : Bool → ℕ → List ℕ → Bool
 breaks_opt_rule opt_allowed rtype owner = nat_eq rtype OPT && (if opt_allowed then nat_lt 1 (length owner) else true)
 
--- The record whose owner ends at an offset, and the offset after it: type, class, TTL, the length of the RDATA and the RDATA (RFC 1035 4.1.3).
+-- The record whose owner ends at an offset, and the offset after it: type, class, TTL, RDLENGTH, RDATA (RFC 1035 4.1.3).
 unfoldable pub record_after_owner : List ℕ → Bool → List ℕ → ℕ → Result (Rr × ℕ) MsgWhy
 record_after_owner payload opt_allowed owner at =
     let rtype : ℕ = be16 at payload in
@@ -118,8 +118,9 @@ records_at payload count opt_allowed at = do
   records ← repeat (record_step payload) count (at, opt_allowed)
   Ok (records.0, records.1.0)
 
--- The message that a payload spells and the number of bytes that it takes, or the first rule that is broken: a header of twelve bytes
--- with ID, bits and four counts, and so many questions, answers, authority and additional records (RFC 1035 4.1).
+-- The message that a payload spells and the number of bytes that it takes, or the first rule that is broken: a header
+-- of twelve bytes with ID, bits and four counts, and so many questions, answers, authority and additional records
+-- (RFC 1035 4.1).
 unfoldable pub message_of : List ℕ → Result (Message × ℕ) MsgWhy
 message_of payload =
     if nat_lt (length payload) 12 then Err Short

@@ -1,4 +1,4 @@
--- The rules of messages one by one (RFC 1035 section 4, RFC 6891 section 6), as relations. A payload is read from left to right.
+-- The rules of messages one by one, as relations, from left to right (RFC 1035 section 4, RFC 6891 section 6).
 use Rattle.std.specs.Prelude.{◌≡◌, ◌≢◌, ◌↔◌, ℕ, zero, suc, ◌+◌, ◌-◌, ◌<◌, ◌≤◌, List, [], ◌∷◌, ◌++◌, length, take, true, false, Some, None, Result, Ok, Err, ◌⊎◌}
 use Rattle.std.specs.List.{All, concat, count_by}
 use Rattle.cd_name.specs.Names.{NameAt, NameBroken, run_is_cut}
@@ -56,8 +56,8 @@ pub data BreaksRdataName (p : List ℕ) (end at : ℕ) (why : MsgWhy) : Type 0 w
   -- its first run ends within the RDATA, and it breaks a rule of names
   within_end : (broken : NameWhy) → run_is_cut (take end p) at ≡ false → NameBroken p at broken → why ≡ why_of broken → BreaksRdataName p end at why
 
--- The RDATA of a type stands between two offsets (RFC 1035 3.3): it may be empty; without a shape it is any bytes; else it is filled by bytes, names
--- and bytes, and its names are kept without pointers.
+-- The RDATA of a type stands between two offsets (RFC 1035 3.3): it may be empty; without a shape it is any bytes;
+-- else it is filled by bytes, names and bytes, and its names are kept without pointers.
 pub data ReadsRdata (p : List ℕ) (rtype at end : ℕ) (rdata : List ℕ) : Type 0 where
   empty : at ≡ end → rdata ≡ [] → ReadsRdata p rtype at end rdata
   any_bytes : at ≢ end → shape_of rtype ≡ None → rdata ≡ bytes_at p at (end - at) → ReadsRdata p rtype at end rdata
@@ -76,7 +76,7 @@ pub data BreaksRdata (p : List ℕ) (rtype at end : ℕ) (why : MsgWhy) : Type 0
   after_names : (s : kind.Shape) (names : List (List ℕ)) (next : ℕ) → at ≢ end → shape_of rtype ≡ Some s → at + s.before ≤ end →
       ReadsEach (RdataNameAt p end) s.names (at + s.before) names next → next + s.after ≢ end → why ≡ Shape → BreaksRdata p rtype at end why
 
--- A record stands at an offset and ends before the next one: an owner, a type, a class, a TTL, the length of its RDATA and its RDATA (RFC 1035 4.1.3).
+-- A record stands at an offset and ends before the next one: owner, type, class, TTL, RDLENGTH, RDATA (RFC 1035 4.1.3).
 pub record ReadsRecord (p : List ℕ) (at : ℕ) (r : Rr) (next : ℕ) : Type 0 where
   pub owner_end : ℕ
   pub is_owned : NameAt p at r.owner owner_end
@@ -87,7 +87,7 @@ pub record ReadsRecord (p : List ℕ) (at : ℕ) (r : Rr) (next : ℕ) : Type 0 
   pub is_there : next ≤ length p
   pub has_rdata : ReadsRdata p r.rtype (owner_end + 10) next r.rdata
 
--- The rule of OPT records, in a section that may hold so many of them (RFC 6891 6.1.1, 6.1.2): no more stand in it, and each is the root's.
+-- The OPT rule of a section that may hold so many (RFC 6891 6.1.1, 6.1.2): no more stand in it, and each is the root's.
 pub record KeepsOptRule (opts : ℕ) (records : List Rr) : Type 0 where
   pub few : count_by is_opt records ≤ opts
   pub of_root : All (λ r. r.rtype ≡ OPT → r.owner ≡ 0 ∷ []) records
@@ -121,8 +121,8 @@ pub data BreaksRecord (p : List ℕ) (opts : ℕ) (why : MsgWhy) (before : List 
 abbrev pub BreaksSection : List ℕ → ℕ → ℕ → ℕ → MsgWhy → Type 0
 BreaksSection p opts count at why = BreaksAmong (ReadsRecord p) (λ before here. KeepsOptRule opts before × BreaksRecord p opts why before here) count at
 
--- A payload spells a message in so many bytes: a header of twelve bytes, questions, answers, authority and additional records (RFC 1035 4.1).
--- An OPT record stands in the additional section alone, once at most (RFC 6891 6.1.1).
+-- A payload spells a message in so many bytes: a header of twelve bytes, questions, answers, authority and additional
+-- records (RFC 1035 4.1). An OPT record stands in the additional section alone, once at most (RFC 6891 6.1.1).
 pub record ReadsMessage (p : List ℕ) (m : Message) (used : ℕ) : Type 0 where
   pub questions_end : ℕ
   pub answers_end : ℕ

@@ -42,7 +42,7 @@ pub record ValidSection (opts : ℕ) (records : List Rr) : Type 0 where
   pub few_records : length records ≤ 65535
   pub few_opts : count_by is_opt records ≤ opts
 
--- a message with at most 65,535 entries in each section, and at most one OPT record, which is additional (RFC 6891 6.1.1)
+-- a message with at most 65,535 entries in each section, and at most one OPT record, an additional one (RFC 6891 6.1.1)
 pub record Valid (message : Message) : Type 0 where
   pub names_are_names : All (λ q. IsName q.name) message.questions
   pub few_questions : length message.questions ≤ 65535

@@ -36,7 +36,8 @@ fn questions_at(
     count: u16,
     at: usize,
 ) -> Result<(List<Question>, usize), ParseFault>
-    ensures read { Gives (λ x. (x.0, x.1)) result (repeat (Messages.question_at reader.old) count at) }
+    ensures read { Gives (λ x. (x.0, x.1)) result
+        (repeat (Messages.question_at reader.old) count at) }
     ensures same { reader.new ≡ reader.old }
 {
     let mut questions = room_for(alloc, room_of(count, reader, at, LEAST_QUESTION))?;
@@ -61,7 +62,8 @@ fn records_at(
     opt_allowed: bool,
     at: usize,
 ) -> Result<(List<Rr>, usize), ParseFault>
-    ensures read { Gives (λ x. (x.0, x.1)) result (Messages.records_at reader.old count opt_allowed at) }
+    ensures read { Gives (λ x. (x.0, x.1)) result
+        (Messages.records_at reader.old count opt_allowed at) }
     ensures same { reader.new ≡ reader.old }
 {
     let mut records = room_for(alloc, room_of(count, reader, at, LEAST_RECORD))?;
@@ -108,14 +110,16 @@ fn message_of(alloc: Global, payload: &[u8]) -> Result<Parsed, ParseFault>
 
 /// Reads the message that a payload spells, and says how many bytes it takes: what lies after them is no fault.
 ///
-/// Reading goes from left to right, and the first rule that is broken is the fault (RFC 1035 section 4, RFC 6891 section 6):
-/// - a header of 12 bytes has ID, bits and four counts; so many questions, answers, authority and additional records follow.
-///   Missing bytes are `Short`;
+/// Reading goes from left to right, and the first rule that is broken is the fault (RFC 1035 section 4, RFC 6891
+/// section 6):
+/// - a header of 12 bytes has ID, bits and four counts; so many questions, answers, authority and additional records
+///   follow. Missing bytes are `Short`;
 /// - a name is `Label`, `Pointer` or `LongName` where it breaks a rule of names;
-/// - an OPT record outside the additional section, a second one, and one whose owner is not the root are `Opt`, once the ten bytes
-///   after the owner are there;
-/// - RDATA of a type that holds names is empty, or exactly the bytes and names that the type says: else it is `Shape`.
-///   A name whose first run of labels would go on after the RDATA is `Shape`; a later run may stand anywhere in the payload.
+/// - an OPT record outside the additional section, a second one, and one whose owner is not the root are `Opt`, once
+///   the ten bytes after the owner are there;
+/// - RDATA of a type that holds names is empty, or exactly the bytes and names that the type says: else it is
+///   `Shape`. A name whose first run of labels would go on after the RDATA is `Shape`; a later run may stand anywhere
+///   in the payload.
 pub fn parse(alloc: Global, payload: &[u8]) -> Result<Parsed, ParseFault>
     ensures exact { Gives (λ p. (p.message, p.used)) result (Messages.message_of payload.now) }
     ensures valid { IfOk result (λ p. Valid p.message) }

@@ -146,14 +146,15 @@ fn has_small_sections(message: &Message) -> bool
         && message.additional.as_slice().len() <= MAX_ENTRIES
 }
 
-/// Writes a message (RFC 1035 4.1): a header with the counts of its sections, and the sections. A name is written as the labels before
-/// the longest of its suffixes that was written before, and a pointer to that (RFC 1035 4.1.4); names in RDATA take part where RFC 1035
-/// defines the type and the RDATA fills its shape (RFC 3597 section 4). `None` where a section has more than 65,535 entries or the message
-/// more than 65,535 bytes. What is written for a valid message is read by `parse` as the message, to its last byte. The only error is want
-/// of memory.
+/// Writes a message (RFC 1035 4.1): a header with the counts of its sections, and the sections. A name is written as
+/// the labels before the longest of its suffixes that was written before, and a pointer to that (RFC 1035 4.1.4);
+/// names in RDATA take part where RFC 1035 defines the type and the RDATA fills its shape (RFC 3597 section 4).
+/// `None` where a section has more than 65,535 entries or the message more than 65,535 bytes. What is written for a
+/// valid message is read by `parse` as the message, to its last byte. The only error is want of memory.
 pub fn write(alloc: Global, message: &Message) -> Result<Option<Blob>, AllocError>
     ensures exact { IfOk result (λ w. w ≡ written_if_fits message.now) }
-    ensures read { Valid message.now → IfOk result (λ w. IfSome w (λ bytes. Spells bytes message.now (length bytes))) }
+    ensures read { Valid message.now →
+        IfOk result (λ w. IfSome w (λ bytes. Spells bytes message.now (length bytes))) }
 {
     if !has_small_sections(message) {
         return Ok(None);

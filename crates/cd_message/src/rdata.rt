@@ -22,8 +22,8 @@ fn rdata_why_of(why: NameWhy) -> MsgWhy
     }
 }
 
-// Appends the name at an offset in RDATA that ends at `end` to some bytes, without pointers, and gives the offset after it. A run that
-// would go on after the RDATA is read from the bytes before its end alone: it has no pointer.
+// Appends the name at an offset in RDATA that ends at `end` to some bytes, without pointers, and gives the offset
+// after it. A run that would go on after the RDATA is read from the bytes before its end alone: it has no pointer.
 #[tactic(auto, unfolding(crate::specs::Messages::rdata_name, crate::specs::Messages::name_in))]
 fn append_rdata_name(
     bytes: &mut Vec<u8>,
@@ -32,7 +32,8 @@ fn append_rdata_name(
     at: usize,
 ) -> Result<usize, ParseFault>
     requires { end ≤ length reader.old }
-    ensures read { Appends bytes.old.items bytes.new.items result (Messages.rdata_name reader.old end at) }
+    ensures read { Appends bytes.old.items bytes.new.items result
+        (Messages.rdata_name reader.old end at) }
     ensures same { reader.new ≡ reader.old }
 {
     let front = &reader.payload()[..end];
@@ -59,7 +60,8 @@ fn append_names(
     at: usize,
 ) -> Result<usize, ParseFault>
     requires { end ≤ length reader.old }
-    ensures read { Gives (λ next. (bytes.new.items, next)) result (with_front bytes.old.items (Messages.rdata_names reader.old end count at)) }
+    ensures read { Gives (λ next. (bytes.new.items, next)) result
+        (with_front bytes.old.items (Messages.rdata_names reader.old end count at)) }
     ensures same { reader.new ≡ reader.old }
 {
     let mut here = at;
@@ -92,8 +94,8 @@ fn copy_of(alloc: Global, bytes: &[u8]) -> Result<Blob, ParseFault>
     }
 }
 
-// The RDATA of a shape between two offsets, its names without pointers. Most RDATA has no pointers, and then its bytes are copied
-// into room for exactly as many.
+// The RDATA of a shape between two offsets, its names without pointers. Most RDATA has no pointers, and then its
+// bytes are copied into room for exactly as many.
 #[tactic(auto, unfolding(crate::specs::Messages::rdata_of_shape))]
 fn rdata_of_shape(
     alloc: Global,

@@ -74,7 +74,8 @@ impl Writing {
     // Appends names that stand one after the other without pointers.
     fn put_names(&mut self, names: &[u8]) -> Result<(), WriteFault>
         requires { length self.old.bytes ≤ 65535 }
-        ensures { (list : List (List ℕ)) → All IsName list → names.now ≡ concat list → Puts (each_in_turn name_piece list) self.old self.new result }
+        ensures { (list : List (List ℕ)) → All IsName list → names.now ≡ concat list →
+            Puts (each_in_turn name_piece list) self.old self.new result }
     {
         let mut rest = names;
         'names: while let Some(size) = name_size(rest) {

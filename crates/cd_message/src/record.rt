@@ -29,7 +29,8 @@ fn record_after_owner(
     at: usize,
 ) -> Result<(Rr, usize), ParseFault>
     requires { at ≤ length reader.old }
-    ensures read { Gives (λ x. (x.0, x.1)) result (Messages.record_after_owner reader.old opt_allowed owner at) }
+    ensures read { Gives (λ x. (x.0, x.1)) result
+        (Messages.record_after_owner reader.old opt_allowed owner at) }
     ensures same { reader.new ≡ reader.old }
 {
     let payload = reader.payload();

@@ -47,7 +47,8 @@ fn message_of(alloc: Global, questions: u16, answers: u16) -> Result<Vec<u8>, Al
     Ok(payload)
 }
 
-// The longest message that is written has 65,535 bytes. Reading gives each of its 9,501 items, and no item less where there is one more.
+// The longest message that is written has 65,535 bytes. Reading gives each of its 9,501 items, and no item less where
+// there is one more.
 #[test]
 fn a_message_of_thousands_of_items(rt: HostRuntime) -> Result<(), AllocError> {
     for (questions, is_written) in [(6498u16, true), (6499, false)] {

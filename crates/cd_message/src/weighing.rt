@@ -36,8 +36,8 @@ fn records_weight(records: &[Rr]) -> u64
     total
 }
 
-/// What a message weighs, where messages are held back: 256, for each question 48 and its name, and for each record 64, its owner
-/// and its RDATA, in bytes.
+/// What a message weighs, where messages are held back: 256, for each question 48 and its name, and for each record
+/// 64, its owner and its RDATA, in bytes.
 pub fn weight(message: &Message) -> u64
     requires { Valid message.now }
     ensures { result ≡ weight_of message.now }

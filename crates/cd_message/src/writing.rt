@@ -9,7 +9,7 @@ ghost use Rattle.cd_message.specs.Putting.{Puts};
 use cd_name::{Blob, NameWriter};
 use std::alloc::{AllocError, Global};
 
-// The greatest number of bytes of a message: its length has two bytes before it where it goes over TCP (RFC 1035 4.2.2).
+// The most bytes of a message: over TCP its length stands before it in two bytes (RFC 1035 4.2.2).
 pub(crate) const MAX_MESSAGE: usize = 65535;
 
 // Why a message was not written.
