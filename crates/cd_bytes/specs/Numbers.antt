@@ -29,3 +29,13 @@ le16 at bytes = slice_index bytes at + 0x100 * slice_index bytes (at + 1)
 -- the little-endian number of four bytes at an offset
 unfoldable pub le32 : ℕ → List ℕ → ℕ
 le32 at bytes = slice_index bytes at + 0x100 * slice_index bytes (at + 1) + 0x1_0000 * slice_index bytes (at + 2) + 0x100_0000 * slice_index bytes (at + 3)
+
+-- the number of two bytes at an offset, in this order
+abbrev pub number16_at : Order → ℕ → List ℕ → ℕ
+number16_at Big at bytes = be16 at bytes
+number16_at Little at bytes = le16 at bytes
+
+-- the number of four bytes at an offset, in this order
+abbrev pub number32_at : Order → ℕ → List ℕ → ℕ
+number32_at Big at bytes = be32 at bytes
+number32_at Little at bytes = le32 at bytes

@@ -1,5 +1,2 @@
-pub mod Records
 pub mod Growing
-pub mod Extending
-pub mod Spelled
 pub mod Skipping

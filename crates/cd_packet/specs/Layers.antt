@@ -35,6 +35,11 @@ abbrev pub HasOneVersion : Layer → Type 0
 HasOneVersion (layer.Dgram d) = d.src.v6 ≡ d.dst.v6
 HasOneVersion (layer.Skip r) = ⊤
 
+-- the payload of a datagram has at most 65,535 bytes, since its length has 16 bits (RFC 768)
+abbrev pub HasShortPayload : Layer → Type 0
+HasShortPayload (layer.Dgram d) = length d.payload.now ≤ 65535
+HasShortPayload (layer.Skip r) = ⊤
+
 -- Bytes that are needed are not there: they were not captured, or the packet never had them.
 abbrev pub skip_for_missing : Packet → Found
 skip_for_missing p = if nat_lt (length p.bytes) p.original then skipped Cut else skipped Length

@@ -3,7 +3,7 @@
 ghost use Rattle.std.specs.Prelude.{◌≡◌, ◌+◌, ◌<◌, ◌≤◌, ◌↔◌, IsTrue, length};
 ghost use Rattle.cd_bytes.specs.Numbers.{be16};
 ghost use Rattle.cd_packet.specs.IpPackets.{ip_packet_of};
-ghost use Rattle.cd_packet.specs.Layers.{HasOneVersion, found_in, skipped, skip_for_missing, address_at, udp_layer, ipv4_layer, ethernet_layer, layer_of, IsEthernetIpv4};
+ghost use Rattle.cd_packet.specs.Layers.{HasOneVersion, HasShortPayload, found_in, skipped, skip_for_missing, address_at, udp_layer, ipv4_layer, ethernet_layer, layer_of, IsEthernetIpv4};
 ghost use Rattle.cd_packet.specs.Time.{end_of_time};
 
 use crate::{Addr, Dgram, Layer, Packet, Reason, When};
@@ -79,6 +79,7 @@ fn udp<'a>(packet: &'a Packet, port: u16, time: u64, ip: IpPacket) -> Layer<'a>
     requires one_version { ip.src.v6 ≡ ip.dst.v6 }
     ensures found { found_in result ≡ udp_layer port time packet.now (ip_packet_of ip) }
     ensures one_version { HasOneVersion result }
+    ensures short_payload { HasShortPayload result }
 {
     let bytes = packet.bytes.as_slice();
     let sport = be16(bytes, ip.transport);
@@ -110,6 +111,7 @@ fn ipv4<'a>(packet: &'a Packet, port: u16, time: u64, at: usize) -> Layer<'a>
     requires within { at ≤ length packet.now.bytes }
     ensures found { found_in result ≡ ipv4_layer port time packet.now at }
     ensures one_version { HasOneVersion result }
+    ensures short_payload { HasShortPayload result }
 {
     let bytes = packet.bytes.as_slice();
     if bytes.len() < at + IPV4_HEADER {
@@ -152,6 +154,7 @@ fn ethernet<'a>(packet: &'a Packet, port: u16, time: u64) -> Layer<'a>
     requires protocol { be16 12 packet.now.bytes ≡ 0x0800 }
     ensures found { found_in result ≡ ethernet_layer port time packet.now }
     ensures one_version { HasOneVersion result }
+    ensures short_payload { HasShortPayload result }
 {
     ipv4(packet, port, time, ETHERNET_HEADER)
 }
@@ -163,6 +166,7 @@ pub fn layers<'a>(packet: &'a Packet, port: u16) -> Layer<'a>
     requires { IsEthernetIpv4 packet.now }
     ensures found { found_in result ≡ layer_of port packet.now }
     ensures one_version { HasOneVersion result }
+    ensures short_payload { HasShortPayload result }
 {
     match packet.when {
         When::At(time) => ethernet(packet, port, time),

@@ -10,7 +10,6 @@
 mod address;
 mod capture;
 mod datagram;
-mod law;
 mod layer_reading;
 mod magic;
 mod packet;
@@ -20,7 +19,6 @@ mod tests;
 pub use address::Addr;
 pub use capture::{BadCapture, CaptureWhy, EndState, FeedFault};
 pub use datagram::{Dgram, Layer, Reason};
-pub use law::{captures_grow, spelled_is_read};
 pub use layer_reading::{is_ethernet_ipv4, layers};
 pub use magic::has_magic;
 pub use packet::{Packet, When};

@@ -1,7 +1,7 @@
 -- What each reader keeps is sound, and stays so as its mark moves, its header is read and its packets are given.
 use Rattle.std.proofs.Common.{◌≡◌, ℕ, ◌+◌, ◌-◌, ◌<◌, ◌≤◌, Option, Some, None, IsSome, List, length, take, drop, sym, subst, arith}
 use Rattle.std.proofs.lemmas.List.{length-drop, drop-drop}
-use Rattle.cd_packet.specs.Pcap.{captured_length}
+use Rattle.cd_pcap.specs.Pcap.{little_micros, captured_length}
 use Rattle.cd_pcap.specs.Fronts.{RecordsAre}
 use Rattle.cd_pcap.specs.Reading.{AreWhole}
 use Rattle.cd_pcap.specs.contracts.pcap_reader.PcapReader.{the_view, the_invariant}
@@ -46,7 +46,7 @@ marked_inside r records h header k = record {
 
 -- the first record that is held, where a byte is marked
 pub first_inside : (r : Inside) (link : ℕ) → the_invariant r → r.link ≡ Some link → 0 < r.whole →
-    BeginsWhole link r.at (16 + captured_length (held_in r)) r.whole (held_in r)
+    BeginsWhole link r.at (16 + captured_length little_micros (held_in r)) r.whole (held_in r)
 first_inside r link h is some =
     let P : Option ℕ → Type 0 = λ o. AreWhole o r.at (take r.whole (held_in r)) in
     begins_whole link r.at r.whole (held_in r) (sound_inside r h).within some (subst P is h.marked)

@@ -1,3 +1,9 @@
+pub mod Records
+pub mod Going
+pub mod Extending
+pub mod Spelled
+pub mod SpelledRead
+pub mod ReadSpelled
 pub mod Fronts
 pub mod Marks
 pub mod Refusals

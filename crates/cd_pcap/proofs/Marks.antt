@@ -5,11 +5,11 @@ use Rattle.std.proofs.lemmas.List.{append-nil, length-take-le, take-append-drop,
 use Rattle.std.proofs.Math.Seq.{take-add}
 use Rattle.std.specs.Prelude.{IsSome}
 use Rattle.cd_packet.specs.Capture.{Capture, after}
-use Rattle.cd_packet.specs.Pcap.{captured_length, packet_at, records}
+use Rattle.cd_pcap.specs.Pcap.{little_micros, captured_length, packet_at, records}
 use Rattle.cd_packet.specs.declared.capture.EndState.{EndState}
 use Rattle.cd_packet.specs.declared.capture.EndState.TheVariants.{Whole}
-use Rattle.cd_packet.proofs.Records.{records-none, records-short, records-refused, records-cut, records-first}
-use Rattle.cd_packet.proofs.Growing.{packet_at-append}
+use Rattle.cd_pcap.proofs.Records.{records-none, records-short, records-refused, records-cut, records-first}
+use Rattle.cd_pcap.proofs.Going.{packet_at-append}
 use Rattle.cd_bytes.proofs.Offsets.{le32-append}
 use Rattle.cd_pcap.specs.Fronts.{HasRecord}
 use Rattle.cd_pcap.specs.Reading.{AreWhole}
@@ -20,73 +20,73 @@ pub end_at : (c d : Capture) (e : EndState) → c ≡ d → c.end ≡ e → d.en
 end_at c d e is h = ap (λ (k : Capture). k.end) (sym is) ∙ h
 
 -- whole records that have a byte begin with one
-pub whole-first : (link at : ℕ) (bytes : List ℕ) → (records link 0 at bytes).end ≡ Whole → 0 < length bytes → HasRecord (16 + captured_length bytes) bytes
+pub whole-first : (link at : ℕ) (bytes : List ℕ) → (records little_micros link 0 at bytes).end ≡ Whole → 0 < length bytes → HasRecord (16 + captured_length little_micros bytes) bytes
 whole-first link at bytes h some =
     elim (cases_lt (length bytes) 16) [
-      | inl short ↦ let e = end_at _ _ _ (records-short link at bytes some short) h in absurd cc
-      | inr long ↦ elim (cases_lt 262144 (captured_length bytes)) [
-        | inl large ↦ let e = end_at _ _ _ (records-refused link at bytes long large) h in absurd cc
-        | inr small ↦ elim (cases_lt (length bytes) (16 + captured_length bytes)) [
-          | inl cut ↦ let e = end_at _ _ _ (records-cut link at bytes long small cut) h in absurd cc
+      | inl short ↦ let e = end_at _ _ _ (records-short little_micros link at bytes some short) h in absurd cc
+      | inr long ↦ elim (cases_lt 262144 (captured_length little_micros bytes)) [
+        | inl large ↦ let e = end_at _ _ _ (records-refused little_micros link at bytes long large) h in absurd cc
+        | inr small ↦ elim (cases_lt (length bytes) (16 + captured_length little_micros bytes)) [
+          | inl cut ↦ let e = end_at _ _ _ (records-cut little_micros link at bytes long small cut) h in absurd cc
           | inr whole ↦ record { sum = refl; small = small; whole = whole }
         ]
       ]
     ]
 
 -- a whole record, and what stands in it and behind it, however the bytes go on
-records-begin : (link at b : ℕ) (xs more : List ℕ) → HasRecord (16 + captured_length (b ∷ xs)) (b ∷ xs) →
-    records link 0 at (b ∷ (xs ++ more)) ≡ after (packet_at link at (b ∷ xs) ∷ []) (records link (15 + captured_length (b ∷ xs)) (at + 1) (xs ++ more))
+records-begin : (link at b : ℕ) (xs more : List ℕ) → HasRecord (16 + captured_length little_micros (b ∷ xs)) (b ∷ xs) →
+    records little_micros link 0 at (b ∷ (xs ++ more)) ≡ after (packet_at little_micros link at (b ∷ xs) ∷ []) (records little_micros link (15 + captured_length little_micros (b ∷ xs)) (at + 1) (xs ++ more))
 records-begin link at b xs more h =
-    let whole : 16 + captured_length (b ∷ xs) ≤ length (b ∷ xs) = h.whole in
-    let small : captured_length (b ∷ xs) ≤ 262144 = h.small in
+    let whole : 16 + captured_length little_micros (b ∷ xs) ≤ length (b ∷ xs) = h.whole in
+    let small : captured_length little_micros (b ∷ xs) ≤ 262144 = h.small in
     let len : length (xs ++ more) ≡ length xs + length more = length-append xs more in
-    let same : captured_length (b ∷ (xs ++ more)) ≡ captured_length (b ∷ xs) = le32-append 8 (b ∷ xs) more (omega arith) in
-    let first : packet_at link at (b ∷ (xs ++ more)) ≡ packet_at link at (b ∷ xs) = packet_at-append link at (b ∷ xs) more whole in
-    records-first link at b (xs ++ more) (omega arith) (omega arith) (omega arith)
-    ∙ ap (λ p. after (p ∷ []) (records link (15 + captured_length (b ∷ (xs ++ more))) (at + 1) (xs ++ more))) first
-    ∙ ap (λ n. after (packet_at link at (b ∷ xs) ∷ []) (records link (15 + n) (at + 1) (xs ++ more))) same
+    let same : captured_length little_micros (b ∷ (xs ++ more)) ≡ captured_length little_micros (b ∷ xs) = le32-append 8 (b ∷ xs) more (omega arith) in
+    let first : packet_at little_micros link at (b ∷ (xs ++ more)) ≡ packet_at little_micros link at (b ∷ xs) = packet_at-append little_micros link at (b ∷ xs) more whole in
+    records-first little_micros link at b (xs ++ more) (omega arith) (omega arith) (omega arith)
+    ∙ ap (λ p. after (p ∷ []) (records little_micros link (15 + captured_length little_micros (b ∷ (xs ++ more))) (at + 1) (xs ++ more))) first
+    ∙ ap (λ n. after (packet_at little_micros link at (b ∷ xs) ∷ []) (records little_micros link (15 + n) (at + 1) (xs ++ more))) same
 
 -- behind whole records, what stands there is read
-pub records-then : (link inside at : ℕ) (xs more : List ℕ) → (records link inside at xs).end ≡ Whole →
-    records link inside at (xs ++ more) ≡ after (records link inside at xs).packets (records link 0 (at + length xs) more)
+pub records-then : (link inside at : ℕ) (xs more : List ℕ) → (records little_micros link inside at xs).end ≡ Whole →
+    records little_micros link inside at (xs ++ more) ≡ after (records little_micros link inside at xs).packets (records little_micros link 0 (at + length xs) more)
 unfolding records
-records-then link zero at [] more h = let e : at ≡ at + 0 = omega arith in ap (λ n. records link 0 n more) e
+records-then link zero at [] more h = let e : at ≡ at + 0 = omega arith in ap (λ n. records little_micros link 0 n more) e
 records-then link (suc inside) at [] more h = absurd cc
 records-then link (suc inside) at (b ∷ xs) more h =
     let e : at + 1 + length xs ≡ at + length (b ∷ xs) = omega arith in
-    records-then link inside (at + 1) xs more h ∙ ap (λ n. after (records link inside (at + 1) xs).packets (records link 0 n more)) e
+    records-then link inside (at + 1) xs more h ∙ ap (λ n. after (records little_micros link inside (at + 1) xs).packets (records little_micros link 0 n more)) e
 records-then link zero at (b ∷ xs) more h =
-    let r : HasRecord (16 + captured_length (b ∷ xs)) (b ∷ xs) = whole-first link at (b ∷ xs) h (omega arith) in
-    let n : ℕ = captured_length (b ∷ xs) in
-    let inner : Capture = records link (15 + n) (at + 1) xs in
-    let first : records link 0 at (b ∷ xs) ≡ after (packet_at link at (b ∷ xs) ∷ []) inner =
-    records-first link at b xs (omega (arith, r.whole)) r.small r.whole in
+    let r : HasRecord (16 + captured_length little_micros (b ∷ xs)) (b ∷ xs) = whole-first link at (b ∷ xs) h (omega arith) in
+    let n : ℕ = captured_length little_micros (b ∷ xs) in
+    let inner : Capture = records little_micros link (15 + n) (at + 1) xs in
+    let first : records little_micros link 0 at (b ∷ xs) ≡ after (packet_at little_micros link at (b ∷ xs) ∷ []) inner =
+    records-first little_micros link at b xs (omega (arith, r.whole)) r.small r.whole in
     let place : at + 1 + length xs ≡ at + length (b ∷ xs) = omega arith in
-    let packets : (records link 0 at (b ∷ xs)).packets ≡ packet_at link at (b ∷ xs) ∷ inner.packets = ap (λ (c : Capture). c.packets) first in
+    let packets : (records little_micros link 0 at (b ∷ xs)).packets ≡ packet_at little_micros link at (b ∷ xs) ∷ inner.packets = ap (λ (c : Capture). c.packets) first in
     records-begin link at b xs more r
-    ∙ ap (λ c. after (packet_at link at (b ∷ xs) ∷ []) c) (records-then link (15 + n) (at + 1) xs more (end_at _ _ _ first h))
-    ∙ ap (λ k. after (packet_at link at (b ∷ xs) ∷ inner.packets) (records link 0 k more)) place
-    ∙ ap (λ ps. after ps (records link 0 (at + length (b ∷ xs)) more)) (sym packets)
+    ∙ ap (λ c. after (packet_at little_micros link at (b ∷ xs) ∷ []) c) (records-then link (15 + n) (at + 1) xs more (end_at _ _ _ first h))
+    ∙ ap (λ k. after (packet_at little_micros link at (b ∷ xs) ∷ inner.packets) (records little_micros link 0 k more)) place
+    ∙ ap (λ ps. after ps (records little_micros link 0 (at + length (b ∷ xs)) more)) (sym packets)
 
 -- a whole record is whole records
-one_whole : (link at size : ℕ) (bytes : List ℕ) → HasRecord size bytes → (records link 0 at (take size bytes)).end ≡ Whole
+one_whole : (link at size : ℕ) (bytes : List ℕ) → HasRecord size bytes → (records little_micros link 0 at (take size bytes)).end ≡ Whole
 one_whole link at size bytes h =
-    ap (λ t. (records link 0 at t).end) (sym (append-nil (take size bytes)))
+    ap (λ t. (records little_micros link 0 at t).end) (sym (append-nil (take size bytes)))
     ∙ ap (λ (c : Capture). c.end) (records-record link at size bytes [] h)
-    ∙ ap (λ (c : Capture). c.end) (records-none link (at + size) [] refl)
+    ∙ ap (λ (c : Capture). c.end) (records-none little_micros link (at + size) [] refl)
 
 -- no byte is whole records
 pub none_whole : (link at : ℕ) → AreWhole (Some link) at []
-none_whole link at = ap (λ (c : Capture). c.end) (records-none link at [] refl)
+none_whole link at = ap (λ (c : Capture). c.end) (records-none little_micros link at [] refl)
 
 -- whole records behind whole records
 pub more_whole : (link at n m : ℕ) (bytes : List ℕ) → n ≤ length bytes → AreWhole (Some link) at (take n bytes) → AreWhole (Some link) (at + n) (take m (drop n bytes)) →
     AreWhole (Some link) at (take (n + m) bytes)
 more_whole link at n m bytes within h k =
     let size : length (take n bytes) ≡ n = length-take-le n bytes within in
-    ap (λ t. (records link 0 at t).end) (take-add n m bytes)
+    ap (λ t. (records little_micros link 0 at t).end) (take-add n m bytes)
     ∙ ap (λ (c : Capture). c.end) (records-then link 0 at (take n bytes) (take m (drop n bytes)) h)
-    ∙ ap (λ i. (records link 0 (at + i) (take m (drop n bytes))).end) size ∙ k
+    ∙ ap (λ i. (records little_micros link 0 (at + i) (take m (drop n bytes))).end) size ∙ k
 
 -- one more whole record behind whole records
 pub one_more_whole : (link at n m : ℕ) (bytes : List ℕ) → n ≤ length bytes → AreWhole (Some link) at (take n bytes) → HasRecord m (drop n bytes) →
@@ -101,25 +101,25 @@ pub record BeginsWhole (link at size whole : ℕ) (bytes : List ℕ) : Type 0 wh
 
 -- whole records that have a byte begin so
 pub begins_whole : (link at whole : ℕ) (bytes : List ℕ) → whole ≤ length bytes → 0 < whole → AreWhole (Some link) at (take whole bytes) →
-    BeginsWhole link at (16 + captured_length bytes) whole bytes
+    BeginsWhole link at (16 + captured_length little_micros bytes) whole bytes
 begins_whole link at whole bytes within some h =
     let front : List ℕ = take whole bytes in
     let long : length front ≡ whole = length-take-le whole bytes within in
-    let r : HasRecord (16 + captured_length front) front = whole-first link at front h (omega arith) in
-    let same : captured_length front ≡ captured_length bytes = le32-take 8 whole bytes (omega (arith, r.whole)) within in
-    let size : ℕ = 16 + captured_length bytes in
+    let r : HasRecord (16 + captured_length little_micros front) front = whole-first link at front h (omega arith) in
+    let same : captured_length little_micros front ≡ captured_length little_micros bytes = le32-take 8 whole bytes (omega (arith, r.whole)) within in
+    let size : ℕ = 16 + captured_length little_micros bytes in
     let fits : size ≤ whole = omega (arith, r.whole) in
     let first : HasRecord size front = record { sum = omega arith; small = r.small; whole = omega (arith, r.whole) } in
     let none : drop size (take size front) ≡ [] = drop_all size (take size front) (omega (arith, length-take-le size front first.whole)) in
-    let behind : records link 0 at front ≡ after (packet_at link at front ∷ []) (records link 0 (at + size) (drop size front)) =
-    ap (λ t. records link 0 at t) (sym (take-append-drop size front)) ∙ records-record link at size front (drop size front) first in
+    let behind : records little_micros link 0 at front ≡ after (packet_at little_micros link at front ∷ []) (records little_micros link 0 (at + size) (drop size front)) =
+    ap (λ t. records little_micros link 0 at t) (sym (take-append-drop size front)) ∙ records-record link at size front (drop size front) first in
     let sum : size + (whole - size) ≡ whole = omega arith in
     let others : drop size front ≡ take (whole - size) (drop size bytes) =
     ap (λ n. drop size (take n bytes)) (sym sum) ∙ drop-take size (whole - size) bytes in
     record {
       first = record { sum = refl; small = omega (arith, r.small); whole = omega arith };
       within = fits;
-      others = ap (λ t. (records link 0 (at + size) t).end) (sym others) ∙ end_at _ _ _ behind h;
+      others = ap (λ t. (records little_micros link 0 (at + size) t).end) (sym others) ∙ end_at _ _ _ behind h;
     }
 
 -- what holds behind a header of any link type holds behind this one
@@ -135,4 +135,4 @@ marked_more (Some l) at n m bytes some within h k = more_whole l at n m bytes wi
 
 -- before the first record no byte is marked
 pub first_whole : (link at whole : ℕ) (bytes : List ℕ) → whole ≡ 0 → AreWhole (Some link) at (take whole bytes)
-first_whole link at whole bytes none = ap (λ n. (records link 0 at (take n bytes)).end) none ∙ none_whole link at
+first_whole link at whole bytes none = ap (λ n. (records little_micros link 0 at (take n bytes)).end) none ∙ none_whole link at

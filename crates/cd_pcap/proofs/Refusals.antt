@@ -4,16 +4,15 @@ use Rattle.std.specs.Prelude.{nat_lt}
 use Rattle.std.proofs.lemmas.Bool.{cases_lt, cases_eq, cases_Bool, le-ltb, ltb-false}
 use Rattle.std.proofs.lemmas.List.{length-take-le, take-append-drop}
 use Rattle.std.proofs.Math.Seq.{take-add}
-use Rattle.cd_bytes.specs.Numbers.{le16}
 use Rattle.cd_packet.specs.Capture.{Capture, after, Grows}
-use Rattle.cd_packet.specs.Pcap.{captured_length, is_little_micro, packet_at, records, pcap}
+use Rattle.cd_pcap.specs.Pcap.{little_micros, version, link_type, captured_length, is_little_micro, packet_at, records, pcap}
 use Rattle.cd_packet.specs.declared.capture.BadCapture.{BadCapture}
 use Rattle.cd_packet.specs.declared.capture.EndState.{EndState}
 use Rattle.cd_packet.specs.declared.capture.EndState.TheVariants.{Whole, Cut, Bad}
 use Rattle.cd_packet.specs.declared.capture.CaptureWhy.TheVariants.{Record}
-use Rattle.cd_packet.proofs.Extending.{pcap-grow}
-use Rattle.cd_packet.proofs.Growing.{packet_at-append}
-use Rattle.cd_packet.proofs.Records.{records-short, records-refused, records-cut, records-first, pcap-magic, pcap-short, pcap-version, pcap-records, pcap-none}
+use Rattle.cd_pcap.proofs.Extending.{pcap-grow}
+use Rattle.cd_pcap.proofs.Going.{packet_at-append}
+use Rattle.cd_pcap.proofs.Records.{records-short, records-refused, records-cut, records-first, pcap-magic, pcap-short, pcap-version, pcap-records, pcap-none}
 use Rattle.cd_pcap.specs.Fronts.{HasHeader}
 use Rattle.cd_pcap.specs.Laws.{RefusalsStay, PacketsStandBefore}
 use Rattle.cd_pcap.specs.Reading.{refusal_in, refusal_of}
@@ -62,10 +61,10 @@ record HasBefore (link inside at : ℕ) (bytes : List ℕ) (bad : BadCapture) : 
   pub place : bad.at ≡ at + size
   pub least : inside ≤ size
   pub within : size ≤ length bytes
-  pub packets : (records link inside at (take size bytes)).packets ≡ (records link inside at bytes).packets
+  pub packets : (records little_micros link inside at (take size bytes)).packets ≡ (records little_micros link inside at bytes).packets
 
 -- the records before a refused place have all packets
-records-before : (link inside at : ℕ) (bytes : List ℕ) (bad : BadCapture) → (records link inside at bytes).end ≡ Bad bad → HasBefore link inside at bytes bad
+records-before : (link inside at : ℕ) (bytes : List ℕ) (bad : BadCapture) → (records little_micros link inside at bytes).end ≡ Bad bad → HasBefore link inside at bytes bad
 unfolding records
 records-before link zero at [] bad h = absurd cc
 records-before link (suc inside) at [] bad h = absurd cc
@@ -74,35 +73,35 @@ records-before link (suc inside) at (b ∷ xs) bad h =
     record { size = suc k.size; place = omega (arith, k.place); least = omega (arith, k.least); within = omega (arith, k.within); packets = k.packets }
 records-before link zero at (b ∷ xs) bad h =
     elim (cases_lt (length (b ∷ xs)) 16) [
-      | inl short ↦ let e = end_at _ _ _ (records-short link at (b ∷ xs) (omega arith) short) h in absurd cc
-      | inr long ↦ elim (cases_lt 262144 (captured_length (b ∷ xs))) [
+      | inl short ↦ let e = end_at _ _ _ (records-short little_micros link at (b ∷ xs) (omega arith) short) h in absurd cc
+      | inr long ↦ elim (cases_lt 262144 (captured_length little_micros (b ∷ xs))) [
         | inl large ↦
-            let e = records-refused link at (b ∷ xs) long large in
+            let e = records-refused little_micros link at (b ∷ xs) long large in
             let f : Bad (record { at = at; why = Record }) ≡ Bad bad = end_at _ _ _ e h in
             let is : at ≡ bad.at = place_told _ _ f in
             record { size = 0; place = omega arith; least = omega arith; within = omega arith; packets = sym (ap (λ (c : Capture). c.packets) e) }
-        | inr small ↦ elim (cases_lt (length (b ∷ xs)) (16 + captured_length (b ∷ xs))) [
-          | inl cut ↦ let e = end_at _ _ _ (records-cut link at (b ∷ xs) long small cut) h in absurd cc
+        | inr small ↦ elim (cases_lt (length (b ∷ xs)) (16 + captured_length little_micros (b ∷ xs))) [
+          | inl cut ↦ let e = end_at _ _ _ (records-cut little_micros link at (b ∷ xs) long small cut) h in absurd cc
           | inr whole ↦
-              let n : ℕ = captured_length (b ∷ xs) in
-              let e = records-first link at b xs long small whole in
+              let n : ℕ = captured_length little_micros (b ∷ xs) in
+              let e = records-first little_micros link at b xs long small whole in
               let k = records-before link (15 + n) (at + 1) xs bad (end_at _ _ _ e h) in
               let front : List ℕ = b ∷ take k.size xs in
               let size : length (take k.size xs) ≡ k.size = length-take-le k.size xs k.within in
-              let same : captured_length front ≡ n = le32-take 8 (suc k.size) (b ∷ xs) (omega (arith, k.least)) (omega (arith, k.within)) in
-              let first : packet_at link at (b ∷ xs) ≡ packet_at link at front =
-              ap (λ t. packet_at link at (b ∷ t)) (sym (take-append-drop k.size xs)) ∙ packet_at-append link at front (drop k.size xs) (omega (arith, k.least)) in
-              let f : records link 0 at front ≡ after (packet_at link at front ∷ []) (records link (15 + captured_length front) (at + 1) (take k.size xs)) =
-              records-first link at b (take k.size xs) (omega (arith, k.least)) (omega arith) (omega (arith, k.least)) in
+              let same : captured_length little_micros front ≡ n = le32-take 8 (suc k.size) (b ∷ xs) (omega (arith, k.least)) (omega (arith, k.within)) in
+              let first : packet_at little_micros link at (b ∷ xs) ≡ packet_at little_micros link at front =
+              ap (λ t. packet_at little_micros link at (b ∷ t)) (sym (take-append-drop k.size xs)) ∙ packet_at-append little_micros link at front (drop k.size xs) (omega (arith, k.least)) in
+              let f : records little_micros link 0 at front ≡ after (packet_at little_micros link at front ∷ []) (records little_micros link (15 + captured_length little_micros front) (at + 1) (take k.size xs)) =
+              records-first little_micros link at b (take k.size xs) (omega (arith, k.least)) (omega arith) (omega (arith, k.least)) in
               record {
                 size = suc k.size;
                 place = omega (arith, k.place);
                 least = omega arith;
                 within = omega (arith, k.within);
                 packets = ap (λ (c : Capture). c.packets) f
-                    ∙ ap (λ m. packet_at link at front ∷ (records link (15 + m) (at + 1) (take k.size xs)).packets) same
-                    ∙ ap (λ ps. packet_at link at front ∷ ps) k.packets
-                    ∙ ap (λ p. p ∷ (records link (15 + n) (at + 1) xs).packets) (sym first)
+                    ∙ ap (λ m. packet_at little_micros link at front ∷ (records little_micros link (15 + m) (at + 1) (take k.size xs)).packets) same
+                    ∙ ap (λ ps. packet_at little_micros link at front ∷ ps) k.packets
+                    ∙ ap (λ p. p ∷ (records little_micros link (15 + n) (at + 1) xs).packets) (sym first)
                     ∙ sym (ap (λ (c : Capture). c.packets) e);
               }
         ]
@@ -124,14 +123,14 @@ packets_before bytes bad h =
           none_before bytes bad _ e refl (sym is)
       | inl magic ↦ elim (cases_lt (length bytes) 24) [
         | inl short ↦ let e = end_at _ _ _ (pcap-short bytes magic short) h in absurd cc
-        | inr long ↦ elim (cases_eq (le16 4 bytes) 2) [
+        | inr long ↦ elim (cases_eq (version little_micros bytes) 2) [
           | inr three ↦
               let e = pcap-version bytes magic long three in
               let is : 0 ≡ bad.at = place_told _ _ (end_at _ _ _ e h) in
               none_before bytes bad _ e refl (sym is)
           | inl two ↦
               let e = pcap-records bytes magic long two in
-              let link : ℕ = le16 20 bytes in
+              let link : ℕ = link_type little_micros bytes in
               let k = records-before link 0 24 (drop 24 bytes) bad (end_at _ _ _ e h) in
               let header : HasHeader link bytes = record { magic = magic; long = long; version = two; type = refl } in
               ap (λ n. (pcap (take n bytes)).packets) k.place

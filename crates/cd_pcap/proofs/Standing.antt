@@ -7,9 +7,9 @@ use Rattle.cd_packet.specs.declared.capture.BadCapture.{BadCapture}
 use Rattle.cd_packet.specs.declared.capture.EndState.{EndState}
 use Rattle.cd_packet.specs.declared.capture.EndState.TheVariants.{Bad}
 use Rattle.cd_packet.specs.Capture.{Capture, ends, after}
-use Rattle.cd_packet.specs.Pcap.{packet_at, records, pcap}
+use Rattle.cd_pcap.specs.Pcap.{little_micros, packet_at, records, pcap}
 use Rattle.cd_packet.proofs.Growing.{after-after}
-use Rattle.cd_packet.proofs.Records.{pcap-none, records-none}
+use Rattle.cd_pcap.proofs.Records.{pcap-none, records-none}
 use Rattle.cd_pcap.specs.Fronts.{HasHeader, HasRecord}
 use Rattle.cd_pcap.specs.Laws.{GivenAreFirst}
 use Rattle.cd_pcap.specs.Reading.{Kept, AreWhole, AreOpen, AreRefused, StandsBehind, HasRead, StandsFor, reading_on, open_end, refusal_in, refusal_of}
@@ -36,7 +36,7 @@ behind_mark (Some bad) link at held behind h =
 -- the packets of whole records
 abbrev pub packets_in : Option ℕ → ℕ → List ℕ → List Packet
 packets_in None at bytes = []
-packets_in (Some link) at bytes = (records link 0 at bytes).packets
+packets_in (Some link) at bytes = (records little_micros link 0 at bytes).packets
 
 -- behind whole records, what stands there is read
 before_mark : (link : Option ℕ) (at : ℕ) (bytes more : List ℕ) → AreWhole link at bytes →
@@ -78,7 +78,7 @@ given_first r fed given h = (
 -- no bytes have no packet
 none_in : (link : Option ℕ) (at : ℕ) → packets_in link at [] ≡ []
 none_in None at = refl
-none_in (Some link) at = ap (λ (c : Capture). c.packets) (records-none link at [] refl)
+none_in (Some link) at = ap (λ (c : Capture). c.packets) (records-none little_micros link at [] refl)
 
 -- where the mark stands at the front of the bytes held, all packets are given
 pub all_given : (r : Kept) (fed : List ℕ) (given : List Packet) → IsSound r → r.whole ≡ 0 → StandsFor r fed given → (pcap fed).packets ≡ given
@@ -132,7 +132,7 @@ before_place r fed behind given h =
   where
     none_on : (link : Option ℕ) (at : ℕ) → (reading_on link at []).packets ≡ []
     none_on None at = ap (λ (c : Capture). c.packets) pcap-none
-    none_on (Some link) at = ap (λ (c : Capture). c.packets) (records-none link at [] refl)
+    none_on (Some link) at = ap (λ (c : Capture). c.packets) (records-none little_micros link at [] refl)
 
 -- a piece is held behind the other bytes
 pub held_more : (r : Kept) (piece fed : List ℕ) (given : List Packet) → HasRead r fed [] given →
@@ -223,7 +223,7 @@ abbrev pub passed : Kept → ℕ → Kept
 passed r size = record r { held = drop size r.held; at = r.at + size; whole = r.whole - size }
 
 -- a packet is given
-pub packet_passed : (r : Kept) (link size : ℕ) (p : Packet) → r.link ≡ Some link → HasRecord size r.held → size ≤ r.whole → p ≡ packet_at link r.at r.held →
+pub packet_passed : (r : Kept) (link size : ℕ) (p : Packet) → r.link ≡ Some link → HasRecord size r.held → size ≤ r.whole → p ≡ packet_at little_micros link r.at r.held →
     (fed : List ℕ) (given : List Packet) → StandsFor r fed given →
     StandsFor (passed r size) fed (given ++ p ∷ []) × ((pcap (take p.at fed)).packets ≡ given)
 packet_passed r link size p type first within is fed given h =
@@ -247,8 +247,8 @@ packet_passed r link size p type first within is fed given h =
               ap (λ t. pcap t) (append_assoc read.front front more) ∙ read.reads (front ++ more)
               ∙ ap (λ l. after given (reading_on l r.at (front ++ more))) type
               ∙ ap (λ c. after given c) (records-record link r.at size r.held more first)
-              ∙ ap (λ q. after given (after (q ∷ []) (records link 0 (r.at + size) more))) (sym is)
-              ∙ after-after given (p ∷ []) (records link 0 (r.at + size) more)
+              ∙ ap (λ q. after given (after (q ∷ []) (records little_micros link 0 (r.at + size) more))) (sym is)
+              ∙ after-after given (p ∷ []) (records little_micros link 0 (r.at + size) more)
               ∙ ap (λ l. after (given ++ p ∷ []) (reading_on l (r.at + size) more)) (sym type);
         };
         mark =

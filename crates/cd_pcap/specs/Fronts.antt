@@ -1,7 +1,6 @@
 -- What stands at the front of some bytes of a capture.
 use Rattle.std.specs.Prelude.{◌≡◌, ℕ, true, ◌+◌, ◌≤◌, List, length, take, drop, Option, Some, None}
-use Rattle.cd_bytes.specs.Numbers.{le16}
-use Rattle.cd_packet.specs.Pcap.{captured_length, is_little_micro}
+use Rattle.cd_pcap.specs.Pcap.{little_micros, version, link_type, captured_length, is_little_micro}
 use Rattle.cd_packet.specs.declared.capture.BadCapture.{BadCapture}
 use Rattle.cd_pcap.specs.Reading.{AreWhole, AreOpen, AreRefused}
 use Rattle.cd_pcap.specs.declared.record.Header.{Header}
@@ -14,13 +13,13 @@ use Rattle.cd_pcap.specs.declared.record.Records.{Records}
 pub record HasHeader (link : ℕ) (bytes : List ℕ) : Type 0 where
   pub magic : is_little_micro bytes ≡ true
   pub long : 24 ≤ length bytes
-  pub version : le16 4 bytes ≡ 2
-  pub type : link ≡ le16 20 bytes
+  pub version : version little_micros bytes ≡ 2
+  pub type : link ≡ link_type little_micros bytes
 
 -- these bytes begin with a whole record of this size
 pub record HasRecord (size : ℕ) (bytes : List ℕ) : Type 0 where
-  pub sum : size ≡ 16 + captured_length bytes
-  pub small : captured_length bytes ≤ 262144
+  pub sum : size ≡ 16 + captured_length little_micros bytes
+  pub small : captured_length little_micros bytes ≤ 262144
   pub whole : size ≤ length bytes
 
 -- a header, or why there is none

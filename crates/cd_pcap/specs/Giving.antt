@@ -5,7 +5,7 @@ use Rattle.cd_packet.specs.declared.capture.BadCapture.{BadCapture}
 use Rattle.cd_packet.specs.declared.capture.FeedFault.{FeedFault}
 use Rattle.cd_packet.specs.declared.capture.FeedFault.TheVariants.{Bad, NoMemory}
 use Rattle.cd_packet.specs.declared.packet.Packet.{Packet}
-use Rattle.cd_packet.specs.Pcap.{pcap}
+use Rattle.cd_pcap.specs.Pcap.{pcap}
 use Rattle.cd_pcap.specs.Reading.{Kept, StandsFor, refusal_of}
 
 -- The history after a call of `feed`: a piece is taken exactly where the bytes fed hold no refused place.

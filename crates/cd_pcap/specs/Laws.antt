@@ -1,10 +1,29 @@
--- What is known of each reader, and of the refused place of a capture.
-use Rattle.std.specs.Prelude.{◌≡◌, ℕ, List, ◌++◌, take, Some}
+-- What is known of each capture, of each reader, and of the refused place of a capture.
+use Rattle.std.specs.Prelude.{◌≡◌, ℕ, ◌+◌, ◌<◌, ◌≤◌, List, [], ◌∷◌, ◌++◌, length, take, Some, All}
 use Rattle.cd_packet.specs.declared.capture.BadCapture.{BadCapture}
 use Rattle.cd_packet.specs.declared.capture.EndState.TheVariants.{Bad}
 use Rattle.cd_packet.specs.declared.packet.Packet.{Packet}
-use Rattle.cd_packet.specs.Pcap.{pcap}
+use Rattle.cd_packet.specs.Capture.{Capture, after, Grows}
+use Rattle.cd_pcap.specs.Pcap.{Form, pcap, records}
+use Rattle.cd_pcap.specs.Spelled.{RawRecord, Fits, Spells, spelling_of, packet_of_raw}
 use Rattle.cd_pcap.specs.Reading.{Kept, StandsFor, refusal_of}
+
+-- What is read of some bytes is what they spell.
+abbrev pub ReadIsSpelled : Type 0
+ReadIsSpelled = (bytes : List ℕ) → All (λ byte. byte < 256) bytes → Spells bytes (pcap bytes)
+
+-- What some bytes spell is what is read of them, so they spell one capture.
+abbrev pub SpelledIsRead : Type 0
+SpelledIsRead = (bytes : List ℕ) (c : Capture) → All (λ byte. byte < 256) bytes → Spells bytes c → pcap bytes ≡ c
+
+-- Any record that fits, spelled in any form, and then any bytes, is read as the packet that it means, and then what those bytes hold.
+abbrev pub RecordsAreRead : Type 0
+RecordsAreRead = (form : Form) (link at : ℕ) (r : RawRecord) (rest : List ℕ) → Fits r →
+    records form link 0 at (spelling_of form r ++ rest) ≡ after (packet_of_raw form link at r ∷ []) (records form link 0 (at + (16 + length r.captured)) rest)
+
+-- From four bytes on, the packets of a capture stay as its bytes go on, and after a refused place nothing comes.
+abbrev pub CapturesGrow : Type 0
+CapturesGrow = (bytes more : List ℕ) → 4 ≤ length bytes → Grows (pcap bytes) (pcap (bytes ++ more))
 
 -- the packets given are the first of those in the bytes fed
 abbrev pub GivenAreFirst : Type 0

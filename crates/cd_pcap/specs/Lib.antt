@@ -1,3 +1,5 @@
+pub mod Pcap
+pub mod Spelled
 pub mod Reading
 pub mod Fronts
 pub mod Giving

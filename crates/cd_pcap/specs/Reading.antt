@@ -1,7 +1,7 @@
 -- What a reader of a pcap capture keeps, and for which histories it stands.
 use Rattle.std.specs.Prelude.{◌≡◌, ℕ, ◌+◌, ◌≤◌, nat_lt, List, [], ◌∷◌, ◌++◌, length, drop, Option, Some, None, if◌then◌else◌}
 use Rattle.cd_packet.specs.Capture.{Capture, ends, after}
-use Rattle.cd_packet.specs.Pcap.{pcap, records}
+use Rattle.cd_pcap.specs.Pcap.{little_micros, pcap, records}
 use Rattle.cd_packet.specs.declared.packet.Packet.{Packet}
 use Rattle.cd_packet.specs.declared.capture.BadCapture.{BadCapture}
 use Rattle.cd_packet.specs.declared.capture.CaptureWhy.TheVariants.{Magic}
@@ -26,12 +26,12 @@ pub record Kept : Type 0 where
 -- what is read of these bytes from here on
 abbrev pub reading_on : Option ℕ → ℕ → List ℕ → Capture
 reading_on None at bytes = pcap bytes
-reading_on (Some link) at bytes = records link 0 at bytes
+reading_on (Some link) at bytes = records little_micros link 0 at bytes
 
 -- these bytes are whole records, of which there are none before the header
 abbrev pub AreWhole : Option ℕ → ℕ → List ℕ → Type 0
 AreWhole None at bytes = (at ≡ 0) × (bytes ≡ [])
-AreWhole (Some link) at bytes = (records link 0 at bytes).end ≡ Whole
+AreWhole (Some link) at bytes = (records little_micros link 0 at bytes).end ≡ Whole
 
 -- the end of bytes that hold neither a whole record nor a refused place: fewer than four are no capture
 abbrev pub open_end : Option ℕ → List ℕ → EndState

@@ -11,11 +11,10 @@
 //! `Whole`.
 #![tactic(auto)]
 
-mod law;
+pub mod laws;
 mod pcap_reader;
 mod record;
 #[cfg(test)]
 mod tests;
 
-pub use law::{given_packets_are_first, packets_stand_before_refusals, refusals_stay};
 pub use pcap_reader::PcapReader;

@@ -40,7 +40,7 @@ impl Model for PcapReader {
 }
 
 impl PcapReader {
-    ghost use Rattle.cd_packet.specs.Pcap.{pcap};
+    ghost use Rattle.cd_pcap.specs.Pcap.{pcap};
     ghost use Rattle.cd_packet.specs.declared.packet.Packet.{Packet};
     ghost use Rattle.cd_pcap.specs.Reading.{Kept, HasRead, StandsFor};
     ghost use Rattle.cd_pcap.specs.Giving.{Feeds, RefusesAgain, Counts, Gives, Shrinks};

@@ -1,7 +1,7 @@
 //! The header and the records of a little-endian pcap capture with microseconds (the pcap draft, 4 and 5).
 
 ghost use Rattle.std.specs.Prelude.{◌≡◌, ◌+◌, ◌*◌, ◌≤◌, ◌^◌, length, IfOk};
-ghost use Rattle.cd_packet.specs.Pcap.{captured_length, packet_at};
+ghost use Rattle.cd_pcap.specs.Pcap.{little_micros, captured_length, packet_at};
 ghost use Rattle.cd_packet.specs.Time.{when_at};
 ghost use Rattle.cd_pcap.specs.Fronts.{HeaderIs, FrontIs, RecordsAre};
 ghost use Rattle.cd_pcap.specs.Reading.{open_end};
@@ -80,7 +80,8 @@ pub fn header_of(bytes: &[u8]) -> Header
             why: CaptureWhy::Version,
         });
     }
-    Header::Link(le16(bytes, 20))
+    // The low half of a word: the high half says of a checksum after each packet.
+    Header::Link((le32(bytes, 20) % 0x1_0000) as u16)
 }
 
 // What stands at the front of these bytes behind the header, at this offset (the pcap draft, 5).
@@ -154,7 +155,7 @@ pub fn open_end(link: Option<u16>, bytes: &[u8]) -> EndState
 /// How many bytes the record at the front of these bytes has.
 pub fn record_size(bytes: &[u8]) -> usize
     requires { 16 ≤ length bytes.now }
-    ensures { result ≡ 16 + captured_length bytes.now }
+    ensures { result ≡ 16 + captured_length little_micros bytes.now }
 {
     RECORD_HEADER + le32(bytes, 8) as usize
 }
@@ -173,8 +174,8 @@ fn time_of(seconds: u32, micros: u32) -> When
 
 /// The packet of the whole record at the front of these bytes behind the header, at this offset (the pcap draft, 5).
 pub fn packet_of(alloc: Global, link: u16, at: u64, bytes: &[u8]) -> Result<Packet, AllocError>
-    requires { 16 + captured_length bytes.now ≤ length bytes.now }
-    ensures { IfOk result (λ p. p ≡ packet_at link at bytes.now) }
+    requires { 16 + captured_length little_micros bytes.now ≤ length bytes.now }
+    ensures { IfOk result (λ p. p ≡ packet_at little_micros link at bytes.now) }
 {
     let size = le32(bytes, 8) as usize;
     let when = time_of(le32(bytes, 0), le32(bytes, 4));

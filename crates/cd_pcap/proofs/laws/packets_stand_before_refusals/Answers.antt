@@ -1,5 +1,5 @@
 use Rattle.cd_pcap.proofs.Refusals.{packets_before}
-use Rattle.cd_pcap.proofs.law.packets_stand_before_refusals.Goals as goal
+use Rattle.cd_pcap.proofs.laws.packets_stand_before_refusals.Goals as goal
 
 pub returns : goal.returns
 returns c = packets_before

@@ -1,5 +1,5 @@
 use Rattle.cd_pcap.proofs.Refusals.{refusals_kept}
-use Rattle.cd_pcap.proofs.law.refusals_stay.Goals as goal
+use Rattle.cd_pcap.proofs.laws.refusals_stay.Goals as goal
 
 pub returns : goal.returns
 returns c = refusals_kept

@@ -1,0 +1,76 @@
+-- What a pcap capture holds, as one function of all its bytes (the pcap draft, 4 and 5).
+use Rattle.std.specs.Prelude.{ℕ, zero, suc, ◌+◌, ◌*◌, ◌%◌, nat_lt, nat_eq, Bool, List, [], ◌∷◌, length, take, drop, if◌then◌else◌}
+use Rattle.cd_packet.specs.declared.packet.Packet.{Packet}
+use Rattle.cd_packet.specs.declared.capture.EndState.TheVariants.{Whole, Cut}
+use Rattle.cd_packet.specs.declared.capture.CaptureWhy.TheVariants.{Magic, Version, Record}
+use Rattle.cd_bytes.specs.Numbers.{number16_at, number32_at}
+use Rattle.cd_bytes.specs.declared.order.Order.{Order}
+use Rattle.cd_bytes.specs.declared.order.Order.TheVariants.{Little}
+use Rattle.cd_packet.specs.Magic.{has_magic}
+use Rattle.cd_packet.specs.Time.{when_at, when_at-timely}
+use Rattle.cd_packet.specs.Capture.{Capture, ends, refused_capture, after}
+
+-- the form of a capture: the order of its numbers, and how many nanoseconds a unit of a fraction of a second has, 1000 or 1
+pub record Form : Type 0 where
+  pub order : Order
+  pub unit : ℕ
+
+-- little-endian order and microseconds
+abbrev pub little_micros : Form
+little_micros = record { order = Little; unit = 1000 }
+
+-- the first four bytes are d4 c3 b2 a1, the magic of this form
+abbrev pub is_little_micro : List ℕ → Bool
+is_little_micro bytes = has_magic 0xa1b2c3d4 bytes
+
+-- the major version of a header
+abbrev pub version : Form → List ℕ → ℕ
+version form bytes = number16_at form.order 4 bytes
+
+-- the link type of a header: the low half of its last word
+abbrev pub link_type : Form → List ℕ → ℕ
+link_type form bytes = number32_at form.order 20 bytes % 0x10000
+
+-- the captured length of the record at the front of these bytes
+abbrev pub captured_length : Form → List ℕ → ℕ
+captured_length form bytes = number32_at form.order 8 bytes
+
+-- a packet of these parts: link type, offset, seconds, fraction of a second, original length and captured bytes
+abbrev pub packet_of_parts : Form → ℕ → ℕ → ℕ → ℕ → ℕ → List ℕ → Packet
+packet_of_parts form link at seconds fraction original bytes = record {
+  at = at;
+  when = when_at (seconds * 1000000000 + fraction * form.unit);
+  link = link;
+  original = original;
+  bytes = bytes;
+  timely = when_at-timely (seconds * 1000000000 + fraction * form.unit);
+}
+
+-- the packet of the record at the front of these bytes, which stand at this offset
+abbrev pub packet_at : Form → ℕ → ℕ → List ℕ → Packet
+packet_at form link at bytes =
+    packet_of_parts form link at (number32_at form.order 0 bytes) (number32_at form.order 4 bytes) (number32_at form.order 12 bytes)
+    (take (captured_length form bytes) (drop 16 bytes))
+
+-- What these bytes hold, which stand at this offset: so many of them still belong to the record before, and then come the
+-- records.
+unfoldable pub records : Form → ℕ → ℕ → ℕ → List ℕ → Capture
+records form link zero at [] = ends Whole
+records form link (suc inside) at [] = ends Cut
+records form link (suc inside) at (b ∷ bytes) = records form link inside (at + 1) bytes
+records form link zero at (b ∷ bytes) =
+    if nat_lt (length (b ∷ bytes)) 16 then ends Cut
+    else (if nat_lt 262144 (captured_length form (b ∷ bytes)) then refused_capture at Record
+    else (if nat_lt (length (b ∷ bytes)) (16 + captured_length form (b ∷ bytes)) then ends Cut
+    else after (packet_at form link at (b ∷ bytes) ∷ []) (records form link (15 + captured_length form (b ∷ bytes)) (at + 1) bytes)))
+
+-- a capture that begins with the magic of this form: a header of 24 bytes with the version and the link type, and then the records
+unfoldable pub pcap_in : Form → List ℕ → Capture
+pcap_in form bytes =
+    if nat_lt (length bytes) 24 then ends Cut
+    else (if nat_eq (version form bytes) 2 then records form (link_type form bytes) 0 24 (drop 24 bytes)
+    else refused_capture 0 Version)
+
+-- the capture: its magic tells the form, which so far is read in little-endian order with microseconds alone
+unfoldable pub pcap : List ℕ → Capture
+pcap bytes = if is_little_micro bytes then pcap_in little_micros bytes else refused_capture 0 Magic
