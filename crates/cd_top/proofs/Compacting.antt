@@ -5,10 +5,10 @@ use Rattle.std.specs.Io.KnownBytes.{Consumes, IsAtEnd}
 use Rattle.std.proofs.lemmas.Bool.{cases_lt, cases_Bool}
 use Rattle.std.proofs.lemmas.List.{append-nil, append_cancel_right}
 use Rattle.cd_packet.specs.Capture.{Capture, IsWholeOrCut, Grows}
-use Rattle.cd_packet.specs.Pcap.{is_little_micro, pcap}
-use Rattle.cd_packet.proofs.Records.{pcap-magic}
+use Rattle.cd_pcap.specs.Pcap.{is_little_micro, pcap}
+use Rattle.cd_pcap.proofs.Records.{pcap-magic}
 use Rattle.cd_packet.proofs.Growing.{has_magic-few}
-use Rattle.cd_packet.proofs.Extending.{pcap-grow}
+use Rattle.cd_pcap.proofs.Extending.{pcap-grow}
 use Rattle.cd_packet.specs.declared.capture.BadCapture.{BadCapture}
 use Rattle.cd_packet.specs.declared.capture.EndState.{EndState}
 use Rattle.cd_packet.specs.declared.capture.EndState.TheVariants.{Whole, Cut, Bad}

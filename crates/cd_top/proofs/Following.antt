@@ -4,7 +4,7 @@ use Rattle.std.specs.Prelude.{nat_lt}
 use Rattle.std.proofs.lemmas.List.{length-map, length-take, map-append, take-append-drop}
 use Rattle.std.proofs.lemmas.List.Elements.{filter_map-append}
 use Rattle.cd_packet.specs.Capture.{Capture}
-use Rattle.cd_packet.specs.Pcap.{is_little_micro, pcap}
+use Rattle.cd_pcap.specs.Pcap.{is_little_micro, pcap}
 use Rattle.cd_packet.specs.declared.capture.EndState.{EndState}
 use Rattle.cd_packet.specs.declared.capture.EndState.TheVariants.{Whole, Cut, Bad}
 use Rattle.cd_packet.specs.declared.packet.Packet.{Packet}
@@ -20,7 +20,7 @@ use Rattle.cd_ident.specs.Keys.{parts_of}
 use Rattle.cd_ident.specs.declared.event.Event.{Event}
 use Rattle.cd_top.specs.declared.status.Status.{Status}
 use Rattle.cd_top.specs.declared.status.Status.TheVariants as status
-use Rattle.cd_packet.proofs.Records.{pcap-magic, pcap-none}
+use Rattle.cd_pcap.proofs.Records.{pcap-magic, pcap-none}
 use Rattle.cd_packet.proofs.Growing.{has_magic-few}
 use Rattle.cd_top.proofs.Judging.{served-append, served-count, other-append, other-not_read, status_said-few, status_said-other}
 

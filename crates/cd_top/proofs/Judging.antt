@@ -5,7 +5,7 @@ use Rattle.std.proofs.lemmas.Bool.{le-ltb, lt-ltb, ltb-true, eqb-true, cases_Boo
 use Rattle.cd_bytes.specs.Numbers.{le32}
 use Rattle.cd_packet.specs.Magic.{has_magic}
 use Rattle.cd_packet.specs.Capture.{Capture, IsWholeOrCut}
-use Rattle.cd_packet.specs.Pcap.{is_little_micro, pcap}
+use Rattle.cd_pcap.specs.Pcap.{is_little_micro, pcap}
 use Rattle.cd_packet.proofs.Growing.{has_magic-append, has_magic-many, has_magic-few}
 use Rattle.cd_packet.specs.declared.capture.EndState.{EndState}
 use Rattle.cd_packet.specs.declared.capture.EndState.TheVariants.{Whole, Cut, Bad}

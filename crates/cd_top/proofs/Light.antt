@@ -11,9 +11,9 @@ use Rattle.cd_ident.specs.Events.{EventParts, event_parts}
 use Rattle.cd_ident.specs.Keys.{parts_of, view_of}
 use Rattle.cd_ident.specs.declared.event.Event.{Event}
 use Rattle.cd_packet.specs.Layers.{Datagram, Found, datagram, skipped, layer_of}
-use Rattle.cd_packet.specs.Pcap.{pcap}
+use Rattle.cd_pcap.specs.Pcap.{pcap}
 use Rattle.cd_packet.specs.declared.packet.Packet.{Packet}
-use Rattle.cd_packet.proofs.Extending.{pcap-within}
+use Rattle.cd_pcap.proofs.Extending.{pcap-within}
 use Rattle.cd_top.specs.Endings.{used_bytes, StopsReading}
 use Rattle.cd_top.specs.Events.{dns_port, event_rules, is_header_alone, event_found, event_of, events_of, events}
 use Rattle.cd_top.specs.Gathered.{Gathers}

@@ -4,8 +4,8 @@ use Rattle.std.specs.Prelude.{unwrap_or, OnErr, ◌||◌, ◌&&◌, nat_eq, zero
 use Rattle.std.proofs.lemmas.Bool.{cases_lt, cases_Bool, false≢true}
 use Rattle.std.proofs.lemmas.List.{append-nil}
 use Rattle.std.specs.Io.KnownBytes.{Consumes, Keeps}
-use Rattle.cd_packet.specs.Pcap.{pcap}
-use Rattle.cd_packet.proofs.Extending.{pcap-few}
+use Rattle.cd_pcap.specs.Pcap.{pcap}
+use Rattle.cd_pcap.proofs.Extending.{pcap-few}
 use Rattle.cd_ports.proofs.Steps.{consumes_then, consumes_none, consumes_kept, keeps_same}
 use Rattle.cd_top.specs.Events.{events}
 use Rattle.cd_top.specs.Gathered.{Follows, Judges, Gathers, IsEnding}

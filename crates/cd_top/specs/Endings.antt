@@ -5,7 +5,7 @@ use Rattle.cd_packet.specs.declared.capture.EndState.TheVariants.{Whole, Cut, Ba
 use Rattle.cd_packet.specs.declared.packet.Packet.{Packet}
 use Rattle.cd_packet.specs.Magic.{has_magic}
 use Rattle.cd_packet.specs.Capture.{Capture}
-use Rattle.cd_packet.specs.Pcap.{pcap}
+use Rattle.cd_pcap.specs.Pcap.{pcap}
 use Rattle.cd_top.specs.Events.{event_of}
 use Rattle.cd_top.specs.declared.status.Status.{Status}
 use Rattle.cd_top.specs.declared.status.Status.TheVariants as status

@@ -3,7 +3,7 @@ use Rattle.std.specs.Prelude.{◌≡◌, ℕ, Bool, List, take, map, nat_lt, Opt
 use Rattle.std.specs.Io.KnownBytes.{Consumes}
 use Rattle.cd_ident.specs.Events.{EventParts}
 use Rattle.cd_ident.specs.Keys.{parts_of}
-use Rattle.cd_packet.specs.Pcap.{pcap}
+use Rattle.cd_pcap.specs.Pcap.{pcap}
 use Rattle.cd_packet.specs.declared.packet.Packet.{Packet}
 use Rattle.cd_ports.specs.Reading.{SourceMeaning}
 use Rattle.cd_top.specs.Events.{events, events_of, event_of}
