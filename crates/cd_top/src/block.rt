@@ -34,7 +34,7 @@ pub struct BlockSig {
     /// The place of the server's address in the table of addresses.
     pub server_address: u64,
     pub server_port: u16,
-    /// The version of IP and the transport, as bits: 0 is IPv4 and UDP, with nothing behind the message.
+    /// The version of IP and the transport, as bits: 0 is IPv4 and UDP, with nothing after the message.
     pub transport_flags: u8,
     /// What the item has, as bits.
     pub sig_flags: u8,
