@@ -9,14 +9,14 @@ use Rattle.cd_message.specs.declared.message.Question.{Question}
 use Rattle.cd_ident.specs.Identifiers.{Ends, version_byte, primary_of}
 use Rattle.cd_ident.specs.IdentifierLaws.{EndsFit, AreSameEnds, PrimariesAreExact, SecondariesAreExact}
 
--- two lists whose fronts are as long are equal by their fronts and by what is behind them
+-- two lists whose fronts are as long are equal by their fronts and by what comes after them
 same_fronts : (a b c d : List ℕ) → length a ≡ length c → a ++ b ≡ c ++ d → (a ≡ c) × (b ≡ d)
 same_fronts a b c d long e = (
   sym (take-append_seam a b) ∙ ap (λ t. take (length a) t) e ∙ ap (λ n. take n (c ++ d)) long ∙ take-append_seam c d,
   sym (drop-append_seam a b) ∙ ap (λ t. drop (length a) t) e ∙ ap (λ n. drop n (c ++ d)) long ∙ drop-append_seam c d,
 )
 
--- the same where what is behind them is as long
+-- the same where what comes after them is as long
 same_ends : (a b c d : List ℕ) → length b ≡ length d → a ++ b ≡ c ++ d → (a ≡ c) × (b ≡ d)
 same_ends a b c d long e =
     let whole : length (a ++ b) ≡ length (c ++ d) = ap length e in

@@ -1,3 +1,4 @@
 pub mod ExactIds
 pub mod Exchanges
 pub mod WeightBounds
+pub mod HeavyEvents

@@ -5,7 +5,7 @@ use Rattle.std.specs.Prelude.{ℕ, ◌/◌, ◌%◌, ◌^◌, nat_eq, Bool}
 abbrev pub qr_of : ℕ → ℕ
 qr_of bits = bits / 0x8000 % 2
 
--- the opcode, the four bits behind QR
+-- the opcode, the four bits after QR
 abbrev pub opcode_of : ℕ → ℕ
 opcode_of bits = bits / 0x800 % 16
 

@@ -1,5 +1,6 @@
 ghost use Rattle.std.specs.Prelude.{◌≡◌, ◌<◌, ◌≤◌};
 ghost use Rattle.cd_packet.specs.Time.{end_of_time};
+ghost use Rattle.cd_pairing.specs.declared.keyed.TheConstants.{LEAST_WEIGHT};
 ghost use Rattle.cd_ident.specs.Bodies.{HasBody, HasBody-prop};
 ghost use Rattle.cd_ident.specs.Identifiers.{transport_of};
 
@@ -32,8 +33,8 @@ pub enum Body {
     Nothing,
 }
 
-/// A datagram as an event of DNS traffic. Its body is of its kind: a query has a valid message with QR 0, and a response one
-/// with QR 1.
+/// A datagram as an event of DNS traffic. Its body is of its kind: a query has a valid message with QR 0, and a
+/// response one with QR 1.
 #[derive(Debug, Drop)]
 pub struct Event {
     /// Nanoseconds since 1970, below 2^32 seconds.
@@ -56,13 +57,14 @@ pub struct Event {
     pub trailing: bool,
     /// What tells which events belong together.
     pub ids: Ids,
-    /// What it counts for where events are held back: the weight of its message, 256 and its payload where that is none, or 256 where
-    /// nothing is kept.
+    /// What it counts for where events are held back: the weight of its message, 256 and its payload where that is
+    /// none, or 256 where nothing is kept.
     pub weight: u64,
     /// What is kept of the payload.
     pub body: Body,
     pub ghost timely: { time < end_of_time },
     pub ghost one_version: { client.v6 ≡ server.v6 },
     pub ghost small_transport: { transport_of ids ≤ 15 },
+    pub ghost heavy: { LEAST_WEIGHT ≤ weight },
     pub ghost has_body: { HasBody kind body } by { HasBody-prop kind body },
 }

@@ -2,6 +2,7 @@
 
 ghost use Rattle.std.specs.Prelude.{◌≡◌, ◌≤◌, length, IfOk};
 ghost use Rattle.cd_message.specs.Valid.{Valid};
+ghost use Rattle.cd_pairing.specs.declared.keyed.TheConstants.{LEAST_WEIGHT as least_weight};
 ghost use Rattle.cd_ident.specs.Bodies.{HasBody};
 ghost use Rattle.cd_ident.specs.Datagrams.{datagram_of};
 ghost use Rattle.cd_ident.specs.Events.{event_parts, malformed_parts, message_parts, parts_of_payload};
@@ -21,7 +22,8 @@ use cd_packet::Dgram;
 use cd_pairing::LEAST_WEIGHT;
 use std::alloc::{AllocError, Global};
 
-/// No event of a datagram whose payload has at most 65,535 bytes weighs more. None weighs less than `LEAST_WEIGHT` of cd_pairing.
+/// No event of a datagram whose payload has at most 65,535 bytes weighs more. None weighs less than `LEAST_WEIGHT` of
+/// cd_pairing.
 pub const GREATEST_WEIGHT: u64 = 3_400_000;
 
 // The identifiers of what is no message, or is not listed.
@@ -48,8 +50,10 @@ fn event_between(
     requires one_version { ends.client.v6 ≡ ends.server.v6 }
     requires fits { length dgram.now.payload.now ≤ 65535 }
     requires small_transport { transport_of ids ≤ 15 }
+    requires heavy { least_weight ≤ weight }
     requires has_body { HasBody kind body }
-    ensures { parts_of result ≡ parts_of_payload (datagram_of dgram.now) (kept_ends ends) kind trailing ids weight body }
+    ensures { parts_of result ≡
+        parts_of_payload (datagram_of dgram.now) (kept_ends ends) kind trailing ids weight body }
 {
     Event {
         time: dgram.time,
@@ -91,7 +95,8 @@ fn message_event(
     requires one_version { dgram.now.src.v6 ≡ dgram.now.dst.v6 }
     requires fits { length dgram.now.payload.now ≤ 65535 }
     requires valid { Valid parsed.message }
-    ensures { IfOk result (λ e. parts_of e ≡ message_parts rules.now (datagram_of dgram.now) parsed.message parsed.used) }
+    ensures { IfOk result (λ e. parts_of e ≡
+        message_parts rules.now (datagram_of dgram.now) parsed.message parsed.used) }
 {
     let Parsed { message, used } = parsed;
     let trailing = used < dgram.payload.len();
@@ -131,13 +136,13 @@ fn message_event(
     ))
 }
 
-/// The event of a datagram, whose addresses have one version, and whose payload has at most 65,535 bytes. An `Err` is for want
-/// of memory.
+/// The event of a datagram, whose addresses have one version, and whose payload has at most 65,535 bytes. An `Err` is
+/// for want of memory.
 ///
-/// - A payload that is no message is `Malformed`. Its client is the source where the destination port is that of DNS, else the
-///   destination.
-/// - A message with QR 0 goes from client to server, one with QR 1 from server to client. It is a `Query` or a `Response` where
-///   its opcode is listed, and else `Discarded`.
+/// - A payload that is no message is `Malformed`. Its client is the source where the destination port is that of DNS,
+///   else the destination.
+/// - A message with QR 0 goes from client to server, one with QR 1 from server to client. It is a `Query` or a
+///   `Response` where its opcode is listed, and else `Discarded`.
 #[tactic(auto, unfolding(crate::specs::Events::event_parts))]
 pub fn event_of(alloc: Global, dgram: &Dgram, rules: &EventRules) -> Result<Event, AllocError>
     requires one_version { dgram.now.src.v6 ≡ dgram.now.dst.v6 }

@@ -4,7 +4,8 @@ ghost use Rattle.cd_ident.specs.Headers.{is_listed};
 /// What an event is judged by.
 #[derive(Clone, Copy, Debug)]
 pub struct EventRules {
-    /// The port of DNS. A payload that is no message is the client's where it is sent to this port, and else the server's.
+    /// The port of DNS. A payload that is no message is the client's where it is sent to this port, and else the
+    /// server's.
     pub port: u16,
     /// The opcodes that are listed: bit n stands for opcode n.
     pub opcodes: u16,

@@ -8,8 +8,8 @@ use cd_name::Blob;
 /// The identifiers of an event (RFC 8618 10.2).
 #[derive(Debug, Drop)]
 pub struct Ids {
-    /// The version of IP, the addresses and ports of client and server, the transport, the ID and the opcode. Both halves of an
-    /// exchange have the same.
+    /// The version of IP, the addresses and ports of client and server, the transport, the ID and the opcode. Both
+    /// halves of an exchange have the same.
     pub primary: [u8; 41],
     /// The first question, with its name in lower case. One half of an exchange may lack it.
     pub secondary: Option<Blob>,
@@ -34,8 +34,8 @@ fn secondaries_agree(one: &Option<Blob>, other: &Option<Blob>) -> bool
     }
 }
 
-/// Whether two events may be halves of one exchange by their identifiers: their primaries are equal, and their secondaries are
-/// equal or one is absent.
+/// Whether two events may be halves of one exchange by their identifiers: their primaries are equal, and their
+/// secondaries are equal or one is absent.
 pub fn compatible_ids(one: &Ids, other: &Ids) -> bool
     ensures exact { result ≡ ids_agree one.now other.now }
     ensures words { IsTrue result ↔ IdsAgree one.now other.now }

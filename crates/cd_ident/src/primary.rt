@@ -6,13 +6,13 @@ ghost use Rattle.cd_ident.specs.KeptEnds.{kept_ends};
 
 use crate::ends::Ends;
 
-/// The place of the transport in a primary.
+/// The index of the transport in a primary.
 pub const TRANSPORT: usize = 37;
 
 // The transport of UDP (RFC 8618 7.3.2.3.2).
 const UDP: u8 = 0;
 
-// Puts some bytes at an offset of others, and gives the offset behind them.
+// Puts some bytes at an offset of others, and gives the offset after them.
 fn put(bytes: &mut [u8], at: usize, piece: &[u8]) -> usize
     requires { at + length piece.now ≤ length bytes.old }
     ensures next { result ≡ at + length piece.now }

@@ -12,7 +12,7 @@ use std::alloc::{AllocError, Global};
 // The number of bytes of a type and a class.
 const TYPE_AND_CLASS: usize = 4;
 
-// Adds some bytes in lower case behind others.
+// Adds some bytes in lower case after others.
 fn push_folded(bytes: &mut Vec<u8>, name: &[u8]) -> Result<(), AllocError>
     ensures { OnOk result (bytes.new.items ≡ bytes.old.items ++ map lower_case name.now) }
 {
@@ -21,7 +21,8 @@ fn push_folded(bytes: &mut Vec<u8>, name: &[u8]) -> Result<(), AllocError>
 
 // The name of a question in lower case, its type and its class.
 fn folded(alloc: Global, question: &Question) -> Result<Blob, AllocError>
-    ensures { IfOk result (λ bytes. bytes ≡ map lower_case question.now.name ++ to_be_bytes w16 question.now.rtype ++ to_be_bytes w16 question.now.rclass) }
+    ensures { IfOk result (λ bytes. bytes ≡ map lower_case question.now.name
+        ++ to_be_bytes w16 question.now.rtype ++ to_be_bytes w16 question.now.rclass) }
 {
     let name = question.name.as_slice();
     let mut bytes = Vec::with_capacity(alloc, name.len() + TYPE_AND_CLASS)?;

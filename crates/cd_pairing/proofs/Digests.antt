@@ -12,10 +12,10 @@ use Rattle.cd_pairing.specs.Waiting.{digest_of, event_of, IsInside}
 
 -- primaries of two digests are not equal
 primaries_differ : (events : List EventView) (then now : Stamp) → IsInside events then → IsInside events now → then.digest ≢ now.digest →
-    pointwise nat_eq (event_at events then.place).primary (event_at events now.place).primary ≡ false
+    pointwise nat_eq (event_at events then.index).primary (event_at events now.index).primary ≡ false
 primaries_differ events then now t n differ =
-    let a = (event_at events then.place).primary in
-    let b = (event_at events now.place).primary in
+    let a = (event_at events then.index).primary in
+    let b = (event_at events now.index).primary in
     elim (cases_Bool (pointwise nat_eq a b)) [
       | inl same ↦ absurd (differ (t.digest ∙ ap digest_of (same_text a b (sym same)) ∙ sym n.digest))
       | inr other ↦ other
@@ -26,8 +26,8 @@ pub other_digests_fail : (windows : Windows) (events : List EventView) (then now
     nat_eq then.digest now.digest ≡ may_pair windows (event_of events then) (event_of events now)
 unfolding may_pair
 other_digests_fail windows events then now t n differ =
-    let a = event_at events then.place in
-    let b = event_at events now.place in
+    let a = event_at events then.index in
+    let b = event_at events now.index in
     let same_window : Bool = is_in_window windows (event_of events then) (event_of events now) in
     let fails = ap (λ (x : Bool). are_opposite a.side b.side && (x && secondaries_agree a.secondary b.secondary) && same_window) (primaries_differ events then now t n differ) in
     ne_eqb then.digest now.digest differ ∙ sym (fails ∙ ap (λ (x : Bool). x && same_window) (and-false (are_opposite a.side b.side)))

@@ -15,8 +15,8 @@ pub stamped-append : (events more : List EventView) (i : ℕ) → i < length eve
 stamped-append events more i h =
     let first : take (i + 1) (events ++ more) ≡ take (i + 1) events = take-append-le (i + 1) events more (omega arith) in
     let event : event_at (events ++ more) i ≡ event_at events i = get_or_append_left events more no_event i h in
-    ap (λ (t : List EventView). let s : StampedEvent = record { view = event_at (events ++ more) i; place = i; clock = fold (λ latest e. max latest e.time) 0 t; weight_sum = sum_by (λ e. e.weight) t } in s) first
-    ∙ ap (λ (x : EventView). let s : StampedEvent = record { view = x; place = i; clock = clock events i; weight_sum = weight_sum events i } in s) event
+    ap (λ (t : List EventView). let s : StampedEvent = record { view = event_at (events ++ more) i; index = i; clock = fold (λ latest e. max latest e.time) 0 t; weight_sum = sum_by (λ e. e.weight) t } in s) first
+    ∙ ap (λ (x : EventView). let s : StampedEvent = record { view = x; index = i; clock = clock events i; weight_sum = weight_sum events i } in s) event
 
 pub agrees-append : (windows : Windows) (events more : List EventView) → Agrees (are_compatible windows (events ++ more)) (are_compatible windows events) (length events)
 unfolding are_compatible

@@ -21,42 +21,42 @@ both_ok (Err e) p q f = tt
 
 -- the next event, what waits for it once what has closed is dropped, and what was paired before
 record Met (windows : Windows) (events : List EventView) (p : List (Option ℕ)) (mid own : List Stamp) (now : Stamp) : Type 0 where
-  place : length p ≡ now.place
+  index : length p ≡ now.index
   meeting : Meets windows events p mid now
   paired : ArePaired windows events p (event_at events (length p)).side mid own
 
-met : (windows : Windows) (events : List EventView) (p : List (Option ℕ)) (old mid own : List Stamp) (now : Stamp) → now ≡ stamp_at events (length p) → length p < length events → is_neither (event_at events now.place).side ≡ false →
-    ArePaired windows events p (event_at events now.place).side old own → DropsClosed windows events old mid now → Met windows events p mid own now
+met : (windows : Windows) (events : List EventView) (p : List (Option ℕ)) (old mid own : List Stamp) (now : Stamp) → now ≡ stamp_at events (length p) → length p < length events → is_neither (event_at events now.index).side ≡ false →
+    ArePaired windows events p (event_at events now.index).side old own → DropsClosed windows events old mid now → Met windows events p mid own now
 met windows events p old mid own now here room some A D =
-    let e : length p ≡ now.place = sym (ap (λ (s : Stamp). s.place) here) in
+    let e : length p ≡ now.index = sym (ap (λ (s : Stamp). s.index) here) in
     let B : ArePaired windows events p (event_at events (length p)).side old own = subst (λ (x : ℕ). ArePaired windows events p (event_at events x).side old own) (sym e) A in
     let M : Meets windows events p mid now = meets windows events p old mid now here room (ap (λ (x : ℕ). is_neither (event_at events x).side) e ∙ some) B.others_wait D in
-    record { place = e; meeting = M; paired = record { pairing = B.pairing; others_wait = M.waits; own_wait = B.own_wait } }
+    record { index = e; meeting = M; paired = record { pairing = B.pairing; others_wait = M.waits; own_wait = B.own_wait } }
 
 -- after a join
 pub paired_joined : {T E : Type 0} (r : Result T E) (windows : Windows) (events : List EventView) (p q : List (Option ℕ)) (old mid new own : List Stamp) (now : Stamp) (k : ℕ) →
-    now ≡ stamp_at events (length p) → length p < length events → is_neither (event_at events now.place).side ≡ false → ArePaired windows events p (event_at events now.place).side old own →
-    DropsClosed windows events old mid now → IsFirstFit windows events mid now k → OnOk r (q ≡ joined p (stamp_under mid k).place now.place) → OnOk r (new ≡ remove mid k) →
-    OnOk r (ArePaired windows events q (event_at events now.place).side new own)
+    now ≡ stamp_at events (length p) → length p < length events → is_neither (event_at events now.index).side ≡ false → ArePaired windows events p (event_at events now.index).side old own →
+    DropsClosed windows events old mid now → IsFirstFit windows events mid now k → OnOk r (q ≡ joined p (stamp_under mid k).index now.index) → OnOk r (new ≡ remove mid k) →
+    OnOk r (ArePaired windows events q (event_at events now.index).side new own)
 paired_joined r windows events p q old mid new own now k here room some A D F a b =
     let m = met windows events p old mid own now here room some A D in
-    let place : ℕ = (stamp_under mid k).place in
-    let J = subst (λ (x : ℕ). ArePaired windows events (joined p place x) (event_at events x).side (remove mid k) own) m.place (met_joined windows events p mid own now k m.meeting F m.paired) in
+    let index : ℕ = (stamp_under mid k).index in
+    let J = subst (λ (x : ℕ). ArePaired windows events (joined p index x) (event_at events x).side (remove mid k) own) m.index (met_joined windows events p mid own now k m.meeting F m.paired) in
     both_ok r a b (λ x y.
-    subst (λ (t : List Stamp). ArePaired windows events q (event_at events now.place).side t own) (sym y)
-    (subst (λ (t : List (Option ℕ)). ArePaired windows events t (event_at events now.place).side (remove mid k) own) (sym x) J))
+    subst (λ (t : List Stamp). ArePaired windows events q (event_at events now.index).side t own) (sym y)
+    (subst (λ (t : List (Option ℕ)). ArePaired windows events t (event_at events now.index).side (remove mid k) own) (sym x) J))
 
 -- after an event is left alone
 pub paired_alone : {T E : Type 0} (r : Result T E) (windows : Windows) (events : List EventView) (p q : List (Option ℕ)) (old mid own new : List Stamp) (now : Stamp) →
-    now ≡ stamp_at events (length p) → length p < length events → is_neither (event_at events now.place).side ≡ false → ArePaired windows events p (event_at events now.place).side old own →
+    now ≡ stamp_at events (length p) → length p < length events → is_neither (event_at events now.index).side ≡ false → ArePaired windows events p (event_at events now.index).side old own →
     DropsClosed windows events old mid now → NothingFits windows events mid now → OnOk r (q ≡ p ++ None ∷ []) → OnOk r (new ≡ own ++ now ∷ []) →
-    OnOk r (ArePaired windows events q (event_at events now.place).side mid new)
+    OnOk r (ArePaired windows events q (event_at events now.index).side mid new)
 paired_alone r windows events p q old mid own new now here room some A D F a b =
     let m = met windows events p old mid own now here room some A D in
-    let J = subst (λ (x : ℕ). ArePaired windows events (p ++ None ∷ []) (event_at events x).side mid (own ++ now ∷ [])) m.place (met_alone windows events p mid own now m.meeting F m.paired) in
+    let J = subst (λ (x : ℕ). ArePaired windows events (p ++ None ∷ []) (event_at events x).side mid (own ++ now ∷ [])) m.index (met_alone windows events p mid own now m.meeting F m.paired) in
     both_ok r a b (λ x y.
-    subst (λ (t : List Stamp). ArePaired windows events q (event_at events now.place).side mid t) (sym y)
-    (subst (λ (t : List (Option ℕ)). ArePaired windows events t (event_at events now.place).side mid (own ++ now ∷ [])) (sym x) J))
+    subst (λ (t : List Stamp). ArePaired windows events q (event_at events now.index).side mid t) (sym y)
+    (subst (λ (t : List (Option ℕ)). ArePaired windows events t (event_at events now.index).side mid (own ++ now ∷ [])) (sym x) J))
 
 neither_query : Neither ≡ Query → ⊥
 neither_query e = cc
@@ -65,13 +65,13 @@ neither_response : Neither ≡ Response → ⊥
 neither_response e = cc
 
 -- after an event that is neither
-pub paired_neither : (windows : Windows) (events : List EventView) (old m : Matcher) (now : Stamp) → HasPaired windows events old → now ≡ stamp_at events (length old.partners.items) → (event_at events now.place).side ≡ Neither →
+pub paired_neither : (windows : Windows) (events : List EventView) (old m : Matcher) (now : Stamp) → HasPaired windows events old → now ≡ stamp_at events (length old.partners.items) → (event_at events now.index).side ≡ Neither →
     m.partners.items ≡ old.partners.items ++ None ∷ [] → m.queries.items ≡ old.queries.items → m.responses.items ≡ old.responses.items → m.clock ≡ now.clock → m.weight_sum ≡ now.weight_sum → HasPaired windows events m
 paired_neither windows events old m now H here is a b c d e =
     let p : List (Option ℕ) = old.partners.items in
     let q : List (Option ℕ) = m.partners.items in
-    let place : length p ≡ now.place = sym (ap (λ (s : Stamp). s.place) here) in
-    let side : (event_at events (length p)).side ≡ Neither = ap (λ (x : ℕ). (event_at events x).side) place ∙ is in
+    let index : length p ≡ now.index = sym (ap (λ (s : Stamp). s.index) here) in
+    let side : (event_at events (length p)).side ≡ Neither = ap (λ (x : ℕ). (event_at events x).side) index ∙ is in
     let long : length p + 1 ≡ length q = sym (ap length a ∙ length_push p None) in
     record {
       pairing = subst (λ (t : List (Option ℕ)). IsMatching (are_compatible windows events) (length t) t) (sym a) (neither_alone windows events p side H.pairing);

@@ -53,7 +53,7 @@ pub record Meets (windows : Windows) (events : List EventView) (p : List (Option
   pub some_side : is_neither (event_at events (length p)).side ≡ false
   pub waits : IsWaiting windows events p (other_side (event_at events (length p)).side) waiting
 
-pair_told : (windows : Windows) (events : List EventView) (p : List (Option ℕ)) (side : Side) (s now : Stamp) (i : ℕ) → IsOfUnpaired events p side s → s.place ≡ i → now ≡ stamp_at events (length p) →
+pair_told : (windows : Windows) (events : List EventView) (p : List (Option ℕ)) (side : Side) (s now : Stamp) (i : ℕ) → IsOfUnpaired events p side s → s.index ≡ i → now ≡ stamp_at events (length p) →
     may_pair windows (event_of events s) (event_of events now) ≡ are_compatible windows events i (length p)
 unfolding are_compatible
 pair_told windows events p side s now i u e here =
@@ -85,7 +85,7 @@ nothing_fits windows events p waiting now M F = record {
 
 -- an earlier position waits under a smaller number
 smaller : (windows : Windows) (events : List EventView) (p : List (Option ℕ)) (side : Side) (waiting : List Stamp) (k j : ℕ) → IsWaiting windows events p side waiting → (w : WaitsUnder waiting j) → k < length waiting →
-    j < (stamp_under waiting k).place → w.number < k
+    j < (stamp_under waiting k).index → w.number < k
 smaller windows events p side waiting k j W w lk lt = elim (cases_lt w.number k) [
   | inl h ↦ h
   | inr h ↦
@@ -94,20 +94,20 @@ smaller windows events p side waiting k j W w lk lt = elim (cases_lt w.number k)
         | inl g ↦ let o = W.order k w.number g w.within in absurd (omega arith)
         | inr g ↦
             let same : w.number ≡ k = omega arith in
-            let both : (stamp_under waiting w.number).place ≡ (stamp_under waiting k).place = ap (λ (x : ℕ). (stamp_under waiting x).place) same in
+            let both : (stamp_under waiting w.number).index ≡ (stamp_under waiting k).index = ap (λ (x : ℕ). (stamp_under waiting x).index) same in
             absurd (omega arith)
       ]
 ]
 
 first_fits : (windows : Windows) (events : List EventView) (p : List (Option ℕ)) (waiting : List Stamp) (now : Stamp) (k : ℕ) → Meets windows events p waiting now → IsFirstFit windows events waiting now k →
-    Earliest (are_compatible windows events) (length p) p (stamp_under waiting k).place
+    Earliest (are_compatible windows events) (length p) p (stamp_under waiting k).index
 first_fits windows events p waiting now k M F =
     let side : Side = other_side (event_at events (length p)).side in
     let u = M.waits.each k F.within in
     record {
       inside = u.within;
       free = u.free;
-      fits = sym (pair_told windows events p side (stamp_under waiting k) now (stamp_under waiting k).place u refl M.here) ∙ F.good;
+      fits = sym (pair_told windows events p side (stamp_under waiting k) now (stamp_under waiting k).index u refl M.here) ∙ F.good;
       earlier = record {
         none = λ j lt free. (let w = u.within in unpaired_fails windows events p waiting now j M (omega arith) free (λ v. F.earlier v.number (smaller windows events p side waiting k j M.waits v F.within lt)));
       };
@@ -119,11 +119,11 @@ counted R q n e M = subst (λ (k : ℕ). IsMatching R k q) (sym e) M
 -- the next event is paired with the first that fits
 pub met_joined : (windows : Windows) (events : List EventView) (p : List (Option ℕ)) (others own : List Stamp) (now : Stamp) (k : ℕ) → Meets windows events p others now → IsFirstFit windows events others now k →
     ArePaired windows events p (event_at events (length p)).side others own →
-    ArePaired windows events (joined p (stamp_under others k).place (length p)) (event_at events (length p)).side (remove others k) own
+    ArePaired windows events (joined p (stamp_under others k).index (length p)) (event_at events (length p)).side (remove others k) own
 met_joined windows events p others own now k M F A =
     let n : ℕ = length p in
     let side : Side = (event_at events n).side in
-    let a : ℕ = (stamp_under others k).place in
+    let a : ℕ = (stamp_under others k).index in
     let u = M.waits.each k F.within in
     let long : length (joined p a n) ≡ n + 1 = length_push (slice_set p a (Some n)) (Some a) ∙ ap (λ (x : ℕ). x + 1) (length-set p a (Some n)) in
     record {

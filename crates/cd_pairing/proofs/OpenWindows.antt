@@ -15,7 +15,7 @@ pub record Parts (windows : Windows) (a b : StampedEvent) : Type 0 where
   pub sides : are_opposite a.view.side b.view.side ≡ true
   pub ids : identifiers_agree a.view b.view ≡ true
   pub time : b.clock - a.clock ≤ timeout windows a.view.side
-  pub near : b.place - a.place < windows.count
+  pub near : b.index - a.index < windows.count
   pub light : b.weight_sum - a.weight_sum + a.view.weight ≤ windows.bytes
 
 pub parts : (windows : Windows) (a b : StampedEvent) → may_pair windows a b ≡ true → Parts windows a b
@@ -31,13 +31,13 @@ pub compatible_parts : (windows : Windows) (events : List EventView) (i j : ℕ)
 unfolding are_compatible
 compatible_parts windows events i j h = parts windows (stamped_event events i) (stamped_event events j) h
 
-pub in_window_from : (windows : Windows) (a b : StampedEvent) → b.clock - a.clock ≤ timeout windows a.view.side → b.place - a.place < windows.count → b.weight_sum - a.weight_sum + a.view.weight ≤ windows.bytes → is_in_window windows a b ≡ true
+pub in_window_from : (windows : Windows) (a b : StampedEvent) → b.clock - a.clock ≤ timeout windows a.view.side → b.index - a.index < windows.count → b.weight_sum - a.weight_sum + a.view.weight ≤ windows.bytes → is_in_window windows a b ≡ true
 unfolding is_in_window
 in_window_from windows a b x y z = and_from _ _ (and_from _ _ (le-leb _ _ x) (lt-ltb _ _ y)) (le-leb _ _ z)
 
 pub record Times (windows : Windows) (a b : StampedEvent) : Type 0 where
   pub time : b.clock - a.clock ≤ timeout windows a.view.side
-  pub near : b.place - a.place < windows.count
+  pub near : b.index - a.index < windows.count
   pub light : b.weight_sum - a.weight_sum + a.view.weight ≤ windows.bytes
 
 pub in_window_parts : (windows : Windows) (a b : StampedEvent) → is_in_window windows a b ≡ true → Times windows a b

@@ -42,7 +42,7 @@ later_closed : (windows : Windows) (events : List EventView) (i n m : ℕ) → n
 later_closed windows events i n m le c = record { closed = λ j low inside. c.closed j (omega arith) inside }
 
 -- a stamp tells its event
-pub told : (events : List EventView) (p : List (Option ℕ)) (side : Side) (s : Stamp) (i : ℕ) → IsOfUnpaired events p side s → s.place ≡ i → event_of events s ≡ stamped_event events i
+pub told : (events : List EventView) (p : List (Option ℕ)) (side : Side) (s : Stamp) (i : ℕ) → IsOfUnpaired events p side s → s.index ≡ i → event_of events s ≡ stamped_event events i
 told events p side s i u e = ap (event_of events) u.stamp ∙ ap (stamped_event events) e
 
 under_dropped : (old new : List Stamp) (count k : ℕ) → new ≡ drop count old → stamp_under new k ≡ stamp_under old (count + k)
@@ -58,8 +58,8 @@ wait_on windows events p side old new now W D here =
       each = λ k lt. subst (λ (s : Stamp). IsOfUnpaired events p side s) (sym (under_dropped old new c k D.left)) (W.each (c + k) (omega arith));
       order = λ k l lt inside.
           let a = W.order (c + k) (c + l) (omega arith) (omega arith) in
-          let x : (stamp_under new k).place ≡ (stamp_under old (c + k)).place = ap (λ (s : Stamp). s.place) (under_dropped old new c k D.left) in
-          let y : (stamp_under new l).place ≡ (stamp_under old (c + l)).place = ap (λ (s : Stamp). s.place) (under_dropped old new c l D.left) in
+          let x : (stamp_under new k).index ≡ (stamp_under old (c + k)).index = ap (λ (s : Stamp). s.index) (under_dropped old new c k D.left) in
+          let y : (stamp_under new l).index ≡ (stamp_under old (c + l)).index = ap (λ (s : Stamp). s.index) (under_dropped old new c l D.left) in
           omega arith;
       all = λ i lt free is. elim (W.all i lt free is) [
         | inl closed ↦ inl closed
@@ -76,21 +76,21 @@ wait_on windows events p side old new now W D here =
               inr (record {
                 number = w.number - c;
                 within = omega arith;
-                is = ap (λ (s : Stamp). s.place) (under_dropped old new c (w.number - c) D.left) ∙ ap (λ (x : ℕ). (stamp_under old x).place) e ∙ w.is;
+                is = ap (λ (s : Stamp). s.index) (under_dropped old new c (w.number - c) D.left) ∙ ap (λ (x : ℕ). (stamp_under old x).index) e ∙ w.is;
               })
         ]
       ];
     }
 
 -- what is unpaired still is where its partner has not changed
-still_unpaired : (events : List EventView) (p q : List (Option ℕ)) (side : Side) (s : Stamp) → length p ≤ length q → IsOfUnpaired events p side s → partner q s.place ≡ partner p s.place → IsOfUnpaired events q side s
+still_unpaired : (events : List EventView) (p q : List (Option ℕ)) (side : Side) (s : Stamp) → length p ≤ length q → IsOfUnpaired events p side s → partner q s.index ≡ partner p s.index → IsOfUnpaired events q side s
 still_unpaired events p q side s le u e = record { stamp = u.stamp; within = (let w = u.within in omega arith); free = e ∙ u.free; side_is = u.side_is }
 
 -- the same wait where nothing of their side is new or was paired
 pub wait_same : (windows : Windows) (events : List EventView) (p q : List (Option ℕ)) (side : Side) (waiting : List Stamp) → IsWaiting windows events p side waiting → length q ≡ length p + 1 →
     ((i : ℕ) → i < length p → (event_at events i).side ≡ side → partner q i ≡ partner p i) → (partner q (length p) ≡ None → (event_at events (length p)).side ≡ side → ⊥) → IsWaiting windows events q side waiting
 wait_same windows events p q side waiting W long same last = record {
-  each = λ k lt. let u = W.each k lt in still_unpaired events p q side (stamp_under waiting k) (omega arith) u (same (stamp_under waiting k).place u.within u.side_is);
+  each = λ k lt. let u = W.each k lt in still_unpaired events p q side (stamp_under waiting k) (omega arith) u (same (stamp_under waiting k).index u.within u.side_is);
   order = W.order;
   all = λ i lt free is. elim (cases_lt i (length p)) [
     | inl h ↦ elim (W.all i h (sym (same i h is) ∙ free) is) [
@@ -103,15 +103,15 @@ wait_same windows events p q side waiting W long same last = record {
   ];
 }
 
--- what comes now waits behind the others of its side
+-- what comes now waits after the others of its side
 now_unpaired : (events : List EventView) (p : List (Option ℕ)) (side : Side) (now : Stamp) → now ≡ stamp_at events (length p) → (event_at events (length p)).side ≡ side → IsOfUnpaired events (p ++ None ∷ []) side now
 now_unpaired events p side now here is =
-    let place : now.place ≡ length p = ap (λ (s : Stamp). s.place) here in
+    let index : now.index ≡ length p = ap (λ (s : Stamp). s.index) here in
     record {
-      stamp = here ∙ ap (stamp_at events) (sym place);
+      stamp = here ∙ ap (stamp_at events) (sym index);
       within = omega (arith, length_push p None);
-      free = lookup_alone p now.place ∙ get_or_past p now.place None (omega arith);
-      side_is = ap (λ (x : ℕ). (event_at events x).side) place ∙ is;
+      free = lookup_alone p now.index ∙ get_or_past p now.index None (omega arith);
+      side_is = ap (λ (x : ℕ). (event_at events x).side) index ∙ is;
     }
 
 pub wait_more : (windows : Windows) (events : List EventView) (p : List (Option ℕ)) (side : Side) (own : List Stamp) (now : Stamp) → IsWaiting windows events p side own →
@@ -121,24 +121,24 @@ wait_more windows events p side own now W here is =
     let more : List Stamp = own ++ now ∷ [] in
     let long : length more ≡ length own + 1 = length_push own now in
     let longer : length q ≡ length p + 1 = length_push p None in
-    let place : now.place ≡ length p = ap (λ (s : Stamp). s.place) here in
+    let index : now.index ≡ length p = ap (λ (s : Stamp). s.index) here in
     record {
       each = λ k lt. elim (cases_lt k (length own)) [
         | inl h ↦ subst (λ (s : Stamp). IsOfUnpaired events q side s) (sym (get_or_append_left own (now ∷ []) no_stamp k h))
-            (still_unpaired events p q side (stamp_under own k) (omega arith) (W.each k h) (lookup_alone p (stamp_under own k).place))
+            (still_unpaired events p q side (stamp_under own k) (omega arith) (W.each k h) (lookup_alone p (stamp_under own k).index))
         | inr h ↦ let e : length own ≡ k = omega arith in
             subst (λ (s : Stamp). IsOfUnpaired events q side s) (sym (get_or_push own now no_stamp k e)) (now_unpaired events p side now here is)
       ];
       order = λ k l lt inside.
           let first : k < length own = omega arith in
-          let x : (stamp_under more k).place ≡ (stamp_under own k).place = ap (λ (s : Stamp). s.place) (get_or_append_left own (now ∷ []) no_stamp k first) in
+          let x : (stamp_under more k).index ≡ (stamp_under own k).index = ap (λ (s : Stamp). s.index) (get_or_append_left own (now ∷ []) no_stamp k first) in
           elim (cases_lt l (length own)) [
             | inl h ↦
-                let y : (stamp_under more l).place ≡ (stamp_under own l).place = ap (λ (s : Stamp). s.place) (get_or_append_left own (now ∷ []) no_stamp l h) in
+                let y : (stamp_under more l).index ≡ (stamp_under own l).index = ap (λ (s : Stamp). s.index) (get_or_append_left own (now ∷ []) no_stamp l h) in
                 let a = W.order k l lt h in omega arith
             | inr h ↦
                 let e : length own ≡ l = omega arith in
-                let y : (stamp_under more l).place ≡ now.place = ap (λ (s : Stamp). s.place) (get_or_push own now no_stamp l e) in
+                let y : (stamp_under more l).index ≡ now.index = ap (λ (s : Stamp). s.index) (get_or_push own now no_stamp l e) in
                 let a = (W.each k first).within in omega arith
           ];
       all = λ i lt free sided. elim (cases_lt i (length p)) [
@@ -147,21 +147,21 @@ wait_more windows events p side own now W here is =
           | inr w ↦ let within = w.within in inr (record {
             number = w.number;
             within = omega arith;
-            is = ap (λ (s : Stamp). s.place) (get_or_append_left own (now ∷ []) no_stamp w.number w.within) ∙ w.is;
+            is = ap (λ (s : Stamp). s.index) (get_or_append_left own (now ∷ []) no_stamp w.number w.within) ∙ w.is;
           })
         ]
         | inr h ↦ let e : length p ≡ i = omega arith in inr (record {
           number = length own;
           within = omega arith;
-          is = ap (λ (s : Stamp). s.place) (get_or_push own now no_stamp (length own) refl) ∙ place ∙ e;
+          is = ap (λ (s : Stamp). s.index) (get_or_push own now no_stamp (length own) refl) ∙ index ∙ e;
         })
       ];
     }
 
 -- numbers tell positions apart
-places_differ : (windows : Windows) (events : List EventView) (p : List (Option ℕ)) (side : Side) (waiting : List Stamp) → IsWaiting windows events p side waiting → (k m : ℕ) → k < length waiting → m < length waiting → m ≢ k →
-    (stamp_under waiting m).place ≢ (stamp_under waiting k).place
-places_differ windows events p side waiting W k m lk lm ne same = elim (cases_lt m k) [
+indices_differ : (windows : Windows) (events : List EventView) (p : List (Option ℕ)) (side : Side) (waiting : List Stamp) → IsWaiting windows events p side waiting → (k m : ℕ) → k < length waiting → m < length waiting → m ≢ k →
+    (stamp_under waiting m).index ≢ (stamp_under waiting k).index
+indices_differ windows events p side waiting W k m lk lm ne same = elim (cases_lt m k) [
   | inl h ↦ let a = W.order m k h lk in omega arith
   | inr h ↦ let a = W.order k m (omega arith) lm in omega arith
 ]
@@ -175,19 +175,19 @@ record Stood (waiting : List Stamp) (k m : ℕ) : Type 0 where
   low : m ≤ number
   high : number ≤ m + 1
   before : m < k → number ≡ m
-  behind : k ≤ m → number ≡ m + 1
+  after : k ≤ m → number ≡ m + 1
 
 stood : (waiting : List Stamp) (k m : ℕ) → k < length waiting → m < length (remove waiting k) → Stood waiting k m
 stood waiting k m lk lm =
     let long = length-remove waiting k lk in
     elim (cases_lt m k) [
-      | inl h ↦ record { number = m; within = omega arith; is = get_or-remove_below waiting k no_stamp m h lk; other = λ e. omega arith; low = omega arith; high = omega arith; before = λ x. refl; behind = λ x. absurd (omega arith) }
-      | inr h ↦ record { number = m + 1; within = omega arith; is = get_or-remove_above waiting k no_stamp m h lk; other = λ e. omega arith; low = omega arith; high = omega arith; before = λ x. absurd (omega arith); behind = λ x. refl }
+      | inl h ↦ record { number = m; within = omega arith; is = get_or-remove_below waiting k no_stamp m h lk; other = λ e. omega arith; low = omega arith; high = omega arith; before = λ x. refl; after = λ x. absurd (omega arith) }
+      | inr h ↦ record { number = m + 1; within = omega arith; is = get_or-remove_above waiting k no_stamp m h lk; other = λ e. omega arith; low = omega arith; high = omega arith; before = λ x. absurd (omega arith); after = λ x. refl }
     ]
 
 -- without the one that is joined, the others of its side wait
 pub wait_less : (windows : Windows) (events : List EventView) (p : List (Option ℕ)) (side : Side) (waiting : List Stamp) (k a : ℕ) → IsWaiting windows events p side waiting → k < length waiting →
-    (stamp_under waiting k).place ≡ a → IsWaiting windows events (joined p a (length p)) side (remove waiting k)
+    (stamp_under waiting k).index ≡ a → IsWaiting windows events (joined p a (length p)) side (remove waiting k)
 wait_less windows events p side waiting k a W lk at =
     let n : ℕ = length p in
     let q : List (Option ℕ) = joined p a n in
@@ -198,18 +198,18 @@ wait_less windows events p side waiting k a W lk at =
       each = λ m lm.
           let s = stood waiting k m lk lm in
           let u = W.each s.number s.within in
-          let ne = places_differ windows events p side waiting W k s.number lk s.within s.other in
+          let ne = indices_differ windows events p side waiting W k s.number lk s.within s.other in
           let w = u.within in
           subst (λ (x : Stamp). IsOfUnpaired events q side x) (sym s.is)
-          (still_unpaired events p q side (stamp_under waiting s.number) (omega arith) u (at_other p a n (stamp_under waiting s.number).place refl (omega arith) (omega arith)));
+          (still_unpaired events p q side (stamp_under waiting s.number) (omega arith) u (at_other p a n (stamp_under waiting s.number).index refl (omega arith) (omega arith)));
       order = λ m l lt ll.
           let s = stood waiting k m lk (omega arith) in
           let t = stood waiting k l lk ll in
-          let x : (stamp_under (remove waiting k) m).place ≡ (stamp_under waiting s.number).place = ap (λ (y : Stamp). y.place) s.is in
-          let y : (stamp_under (remove waiting k) l).place ≡ (stamp_under waiting t.number).place = ap (λ (z : Stamp). z.place) t.is in
-          let rising : s.number < t.number = (let s1 = s.before in let s2 = s.behind in let t1 = t.before in let t2 = t.behind in let b = s.high in let c = t.low in elim (cases_lt m k) [
+          let x : (stamp_under (remove waiting k) m).index ≡ (stamp_under waiting s.number).index = ap (λ (y : Stamp). y.index) s.is in
+          let y : (stamp_under (remove waiting k) l).index ≡ (stamp_under waiting t.number).index = ap (λ (z : Stamp). z.index) t.is in
+          let rising : s.number < t.number = (let s1 = s.before in let s2 = s.after in let t1 = t.before in let t2 = t.after in let b = s.high in let c = t.low in elim (cases_lt m k) [
             | inl h ↦ let e = s.before h in omega arith
-            | inr h ↦ let e = s.behind h in let f = t.behind (omega arith) in omega arith
+            | inr h ↦ let e = s.after h in let f = t.after (omega arith) in omega arith
           ]) in
           let o = W.order s.number t.number rising t.within in
           omega arith;
@@ -223,15 +223,15 @@ wait_less windows events p side waiting k a W lk at =
                 let at_number = w.is in
                 let within = w.within in
                 elim (cases_lt w.number k) [
-                  | inl h ↦ inr (record { number = w.number; within = omega arith; is = ap (λ (x : Stamp). x.place) (get_or-remove_below waiting k no_stamp w.number h lk) ∙ w.is })
+                  | inl h ↦ inr (record { number = w.number; within = omega arith; is = ap (λ (x : Stamp). x.index) (get_or-remove_below waiting k no_stamp w.number h lk) ∙ w.is })
                   | inr h ↦ elim (cases_eq w.number k) [
-                    | inl e ↦ absurd (na (sym w.is ∙ ap (λ (x : ℕ). (stamp_under waiting x).place) e ∙ at))
+                    | inl e ↦ absurd (na (sym w.is ∙ ap (λ (x : ℕ). (stamp_under waiting x).index) e ∙ at))
                     | inr ne ↦
                         let back : w.number - 1 + 1 ≡ w.number = omega arith in
                         inr (record {
                           number = w.number - 1;
                           within = omega arith;
-                          is = ap (λ (x : Stamp). x.place) (get_or-remove_above waiting k no_stamp (w.number - 1) (omega arith) lk) ∙ ap (λ (x : ℕ). (stamp_under waiting x).place) back ∙ w.is;
+                          is = ap (λ (x : Stamp). x.index) (get_or-remove_above waiting k no_stamp (w.number - 1) (omega arith) lk) ∙ ap (λ (x : ℕ). (stamp_under waiting x).index) back ∙ w.is;
                         })
                   ]
                 ]

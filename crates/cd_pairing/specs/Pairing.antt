@@ -16,12 +16,12 @@ timeout windows Neither = 0
 -- an event at its position, with the clock and the sum there
 pub record StampedEvent : Type 0 where
   pub view : EventView
-  pub place : ℕ
+  pub index : ℕ
   pub clock : ℕ
   pub weight_sum : ℕ
 
 abbrev pub stamped_event : List EventView → ℕ → StampedEvent
-stamped_event events i = record { view = event_at events i; place = i; clock = clock events i; weight_sum = weight_sum events i }
+stamped_event events i = record { view = event_at events i; index = i; clock = clock events i; weight_sum = weight_sum events i }
 
 -- primaries equal, secondaries equal or one absent
 abbrev pub identifiers_agree : EventView → EventView → Bool
@@ -31,7 +31,7 @@ identifiers_agree a b = pointwise nat_eq a.primary b.primary && secondaries_agre
 unfoldable pub is_in_window : Windows → StampedEvent → StampedEvent → Bool
 is_in_window windows a b =
     nat_le (b.clock - a.clock) (timeout windows a.view.side)
-    && nat_lt (b.place - a.place) windows.count
+    && nat_lt (b.index - a.index) windows.count
     && nat_le (b.weight_sum - a.weight_sum + a.view.weight) windows.bytes
 
 -- whether an earlier event and a later one may stand together

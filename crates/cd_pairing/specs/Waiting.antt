@@ -13,7 +13,7 @@ use Rattle.cd_pairing.specs.Pairing.{StampedEvent, stamped_event, is_in_window, 
 
 -- an event with the stamp of its position
 abbrev pub with_stamp : EventView → Stamp → StampedEvent
-with_stamp view s = record { view = view; place = s.place; clock = s.clock; weight_sum = s.weight_sum }
+with_stamp view s = record { view = view; index = s.index; clock = s.clock; weight_sum = s.weight_sum }
 
 -- a digest of these bytes, by which most that differ are told apart
 unfoldable pub digest_of : List ℕ → ℕ
@@ -22,7 +22,7 @@ digest_of bytes = fold (λ digest byte. (digest * FACTOR % 2 ^ 64 + byte) % 2 ^ 
 -- the stamp of the event at this position
 abbrev pub stamp_at : List EventView → ℕ → Stamp
 stamp_at events i = record {
-  place = i;
+  index = i;
   clock = clock events i;
   weight_sum = weight_sum events i;
   digest = digest_of (event_at events i).primary;
@@ -30,7 +30,7 @@ stamp_at events i = record {
 
 -- what stands past the end of a list of stamps
 abbrev pub no_stamp : Stamp
-no_stamp = record { place = 0; clock = 0; weight_sum = 0; digest = 0 }
+no_stamp = record { index = 0; clock = 0; weight_sum = 0; digest = 0 }
 
 -- the stamp under this number
 abbrev pub stamp_under : List Stamp → ℕ → Stamp
@@ -38,7 +38,7 @@ stamp_under waiting k = slice_index_or waiting k no_stamp
 
 -- the event of a stamp, with the stamp
 abbrev pub event_of : List EventView → Stamp → StampedEvent
-event_of events s = with_stamp (event_at events s.place) s
+event_of events s = with_stamp (event_at events s.index) s
 
 -- the side that an event of this side is paired with
 abbrev pub other_side : Side → Side
@@ -71,8 +71,8 @@ pub record DropsClosed (windows : Windows) (events : List EventView) (before aft
 
 -- a stamp is at one of these events, and has the digest of its primary
 pub record IsInside (events : List EventView) (s : Stamp) : Type 0 where
-  pub inside : s.place < length events
-  pub digest : s.digest ≡ digest_of (event_at events s.place).primary
+  pub inside : s.index < length events
+  pub digest : s.digest ≡ digest_of (event_at events s.index).primary
 
 -- each stamp is
 pub record AreInside (events : List EventView) (waiting : List Stamp) : Type 0 where
@@ -80,10 +80,10 @@ pub record AreInside (events : List EventView) (waiting : List Stamp) : Type 0 w
 
 -- what a stamp of this side tells: it is that of an unpaired event of the side
 pub record IsOfUnpaired (events : List EventView) (partners : List (Option ℕ)) (side : Side) (s : Stamp) : Type 0 where
-  pub stamp : s ≡ stamp_at events s.place
-  pub within : s.place < length partners
-  pub free : partner partners s.place ≡ None
-  pub side_is : (event_at events s.place).side ≡ side
+  pub stamp : s ≡ stamp_at events s.index
+  pub within : s.index < length partners
+  pub free : partner partners s.index ≡ None
+  pub side_is : (event_at events s.index).side ≡ side
 
 -- this position stands in the window of no event from that one on
 pub record HasClosed (windows : Windows) (events : List EventView) (i n : ℕ) : Type 0 where
@@ -94,12 +94,12 @@ pub record HasClosed (windows : Windows) (events : List EventView) (i n : ℕ) :
 pub record WaitsUnder (waiting : List Stamp) (i : ℕ) : Type 0 where
   pub number : ℕ
   pub within : number < length waiting
-  pub is : (stamp_under waiting number).place ≡ i
+  pub is : (stamp_under waiting number).index ≡ i
 
 -- the stamps of one side that wait, in order: all of its unpaired events but those whose windows have closed
 pub record IsWaiting (windows : Windows) (events : List EventView) (partners : List (Option ℕ)) (side : Side) (waiting : List Stamp) : Type 0 where
   pub each : (k : ℕ) → k < length waiting → IsOfUnpaired events partners side (stamp_under waiting k)
-  pub order : (k l : ℕ) → k < l → l < length waiting → (stamp_under waiting k).place < (stamp_under waiting l).place
+  pub order : (k l : ℕ) → k < l → l < length waiting → (stamp_under waiting k).index < (stamp_under waiting l).index
   pub all : (i : ℕ) → i < length partners → partner partners i ≡ None → (event_at events i).side ≡ side →
       HasClosed windows events i (length partners) ⊎ WaitsUnder waiting i
 

@@ -1,7 +1,7 @@
 ghost use Rattle.std.specs.Prelude.{◌≡◌};
 ghost use Rattle.cd_pairing.specs.Waiting.{digest_of};
 
-// An odd number near 2^64 over the golden ratio, so that a change of a few bytes changes the digest.
+// An odd number near 2^64 over the golden ratio: bytes that differ a little then seldom have one digest.
 const FACTOR: u64 = 0x9e37_79b9_7f4a_7c15;
 
 // A digest of some bytes: bytes whose digests differ are not the same.

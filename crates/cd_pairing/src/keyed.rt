@@ -23,7 +23,7 @@ pub struct Windows {
     pub query_ns: u64,
     /// The skew timeout, in nanoseconds: how far the clock may run on from a response to its query.
     pub skew_ns: u64,
-    /// In positions: the later event stands less than this many positions behind the earlier one.
+    /// In positions: the later event stands less than this many positions after the earlier one.
     pub count: u64,
     /// The most that the events from the earlier to the later one may weigh together, both included, in the unit of
     /// `Keyed::weight`.
@@ -52,5 +52,6 @@ pub trait Keyed {
 
     /// A second identifier, as bytes, which one half may lack: two agree where they are equal or one is absent.
     fn secondary(&self) -> Option<&[u8]>
-        ensures { MatchOption result ((view self.now).secondary ≡ None) (λ s. (view self.now).secondary ≡ Some s.now) };
+        ensures { MatchOption result
+            ((view self.now).secondary ≡ None) (λ s. (view self.now).secondary ≡ Some s.now) };
 }

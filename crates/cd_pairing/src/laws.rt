@@ -1,3 +1,5 @@
+//! What holds of the pairing of every list of events. Each law is the contract of a function that does nothing.
+
 ghost use Rattle.cd_pairing.specs.Laws.{PairingsAreUnique, EachListHasPairing, FrontsKeepPairs, OneMoreJoins};
 ghost use Rattle.cd_pairing.specs.PairSet.{MatchingsAreSets};
 ghost use Rattle.cd_pairing.specs.Records.{ReleasedStay};

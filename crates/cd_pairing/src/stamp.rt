@@ -8,7 +8,7 @@ use crate::{Keyed, Side, Windows};
 // A position, with the clock and the sum of the weights there, and the digest of the primary of its event.
 #[derive(Clone, Copy, Debug)]
 pub(crate) struct Stamp {
-    pub(crate) place: usize,
+    pub(crate) index: usize,
     pub(crate) clock: u64,
     pub(crate) weight_sum: u64,
     pub(crate) digest: u64,
@@ -61,11 +61,12 @@ pub(crate) fn is_in_window<E: Keyed>(
     event: &E,
     now: Stamp,
 ) -> bool
-    ensures { result ≡ is_in_window windows.now (with_stamp (E.view waiting.now) then) (with_stamp (E.view event.now) now) }
+    ensures { result ≡
+        is_in_window windows.now (with_stamp (E.view waiting.now) then) (with_stamp (E.view event.now) now) }
 {
     let passed = now.weight_sum.saturating_sub(then.weight_sum);
     now.clock.saturating_sub(then.clock) <= timeout(windows, waiting.side())
-        && (now.place.saturating_sub(then.place) as u64) < windows.count
+        && (now.index.saturating_sub(then.index) as u64) < windows.count
         && passed <= windows.bytes
         && waiting.weight() <= windows.bytes - passed
 }
@@ -79,7 +80,8 @@ pub(crate) fn may_pair<E: Keyed>(
     event: &E,
     now: Stamp,
 ) -> bool
-    ensures { result ≡ may_pair windows.now (with_stamp (E.view waiting.now) then) (with_stamp (E.view event.now) now) }
+    ensures { result ≡
+        may_pair windows.now (with_stamp (E.view waiting.now) then) (with_stamp (E.view event.now) now) }
 {
     are_opposite(waiting.side(), event.side())
         && identifiers_agree(waiting, event)

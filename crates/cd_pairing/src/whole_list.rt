@@ -1,4 +1,5 @@
-ghost use Rattle.std.specs.Prelude.{◌≡◌, ◌<◌, ◌+◌, ◌^◌, ◌∷◌, [], ◌++◌, length, map, OnOk, IfOk, slice_set, Some, None, take, max, false};
+ghost use Rattle.std.specs.Prelude.{◌≡◌, ◌<◌, ◌+◌, ◌^◌, max, false, Some, None, OnOk, IfOk};
+ghost use Rattle.std.specs.Prelude.{◌∷◌, [], ◌++◌, length, map, slice_set, take};
 ghost use Rattle.std.specs.List.{fold, sum_by, remove};
 ghost use Rattle.cd_pairing.specs.Events.{event_at};
 ghost use Rattle.cd_pairing.specs.Pairing.{IsPairing};
@@ -31,16 +32,16 @@ fn join(
     now: Stamp,
 ) -> Result<(), AllocError>
     requires waits { k < length others.old.items }
-    requires known { (stamp_under others.old.items k).place < length partners.old.items }
+    requires known { (stamp_under others.old.items k).index < length partners.old.items }
     ensures partners { OnOk result (partners.new.items ≡
-        slice_set partners.old.items (stamp_under others.old.items k).place (Some now.place)
-        ++ Some ((stamp_under others.old.items k).place) ∷ []) }
+        slice_set partners.old.items (stamp_under others.old.items k).index (Some now.index)
+        ++ Some ((stamp_under others.old.items k).index) ∷ []) }
     ensures others { OnOk result (others.new.items ≡ remove others.old.items k) }
 {
     let then = others[k];
     others.remove(k);
-    partners[then.place] = Some(now.place);
-    partners.push(Some(then.place))?;
+    partners[then.index] = Some(now.index);
+    partners.push(Some(then.index))?;
     Ok(())
 }
 
@@ -69,12 +70,12 @@ fn meet<E: Keyed>(
 ) -> Result<(), AllocError>
     requires room { length partners.old.items < length events.now }
     requires next { now ≡ stamp_at (map E.view events.now) (length partners.old.items) }
-    requires waits { is_neither (event_at (map E.view events.now) now.place).side ≡ false }
+    requires waits { is_neither (event_at (map E.view events.now) now.index).side ≡ false }
     requires paired { ArePaired windows.now (map E.view events.now) partners.old.items
-        (event_at (map E.view events.now) now.place).side others.old.items own.old.items }
+        (event_at (map E.view events.now) now.index).side others.old.items own.old.items }
     ensures count { OnOk result (length partners.new.items ≡ length partners.old.items + 1) }
     ensures paired { OnOk result (ArePaired windows.now (map E.view events.now) partners.new.items
-        (event_at (map E.view events.now) now.place).side others.new.items own.new.items) }
+        (event_at (map E.view events.now) now.index).side others.new.items own.new.items) }
 {
     drop_closed(windows, events, others, now);
     match first_fit(windows, events, others, now) {
@@ -94,10 +95,10 @@ impl Matcher {
             sum_by (λ e. e.weight) (take (length self.now.partners.items) (map E.view events.now)) }
         ensures { result ≡ stamp_at (map E.view events.now) (length self.now.partners.items) }
     {
-        let place = self.partners.len();
-        let event = &events[place];
+        let index = self.partners.len();
+        let event = &events[index];
         Stamp {
-            place,
+            index,
             clock: self.clock.max(event.time()),
             weight_sum: self.weight_sum + event.weight(),
             digest: digest_of(event.primary()),
@@ -109,7 +110,8 @@ impl Matcher {
         requires room { length self.old.partners.items < length events.now }
         requires light { sum_by (λ e. e.weight) (map E.view events.now) < 2 ^ 63 }
         requires paired { HasPaired windows.now (map E.view events.now) self.old }
-        ensures count { OnOk result (length self.new.partners.items ≡ length self.old.partners.items + 1) }
+        ensures count { OnOk result
+            (length self.new.partners.items ≡ length self.old.partners.items + 1) }
         ensures paired { OnOk result (HasPaired windows.now (map E.view events.now) self.new) }
     {
         let now = self.next(events);
@@ -121,7 +123,7 @@ impl Matcher {
             responses,
             ..
         } = self;
-        match events[now.place].side() {
+        match events[now.index].side() {
             Side::Query => meet(windows, events, partners, responses, queries, now),
             Side::Response => meet(windows, events, partners, queries, responses, now),
             Side::Neither => {

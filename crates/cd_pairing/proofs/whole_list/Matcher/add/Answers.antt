@@ -11,6 +11,6 @@ returns-in_ok-push-in-Neither-clause-paired g c =
     let es = map g.E.Keyed.view c.args.events.now in
     let now = c.next-now.result in
     let x = c.index-events-now in
-    let at = at_next g.E.Keyed.view c.args.events.now now.place x.result (let p = ap (λ (s : Stamp). s.place) c.next-now.ensures in omega arith) x.is in
-    let is : (event_at es now.place).side ≡ Neither = ap (λ (e : EventView). e.side) at ∙ sym c.in-Neither.ensures in
+    let at = at_next g.E.Keyed.view c.args.events.now now.index x.result (let p = ap (λ (s : Stamp). s.index) c.next-now.ensures in omega arith) x.is in
+    let is : (event_at es now.index).side ≡ Neither = ap (λ (e : EventView). e.side) at ∙ sym c.in-Neither.ensures in
     paired_neither c.args.windows.now es c.args.self.now _ now c.requires.paired c.next-now.ensures is c.in_ok-push-in-Neither.ensures.items refl refl refl refl
