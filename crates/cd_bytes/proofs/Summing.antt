@@ -10,7 +10,7 @@ use Rattle.cd_bytes.proofs.Carrying.{carried-carried}
 sum-cons : (n : ℕ) (numbers : List ℕ) → sum (n ∷ numbers) ≡ n + sum numbers
 sum-cons n numbers = sum_by-cons (λ n. n) n numbers
 
--- Behind an even number of bytes the words go on.
+-- After an even number of bytes the words go on.
 pub sum-words-append : (first second : List ℕ) → length first % 2 ≡ 0 → sum (words (first ++ second)) ≡ sum (words first) + sum (words second)
 sum-words-append [] second even = omega arith
 sum-words-append (last ∷ []) second even = absurd (omega arith)
@@ -18,7 +18,7 @@ sum-words-append (high ∷ low ∷ rest) second even =
     let word = 0x100 * high + low in
     omega (arith, sum-words-append rest second (omega arith), sum-cons word (words rest), sum-cons word (words (rest ++ second)))
 
--- The sum of the words of a front, and of what is behind it.
+-- The sum of the words of a front, and of what is after it.
 sum-words-split : (count : ℕ) (bytes : List ℕ) → count ≡ min (length bytes) 0x1_0000_0000 → sum (words (take count bytes)) + sum (words (drop count bytes)) ≡ sum (words bytes)
 sum-words-split count bytes size =
     elim (cases_lt 0x1_0000_0000 (length bytes)) [

@@ -1,4 +1,4 @@
-//! Laws over the definitions, each the contract of a function that does nothing.
+//! Laws on the definitions, each the contract of a function that does nothing.
 
 ghost use Rattle.std.specs.Prelude.{◌≡◌, ℕ, ◌^◌, ◌<◌, ◌++◌, List, length, drop, All};
 ghost use Rattle.std.specs.Int.{w16, w32, w64};

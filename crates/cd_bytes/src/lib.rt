@@ -12,7 +12,7 @@
 
 mod cursor;
 mod internet_checksum;
-mod laws;
+pub mod laws;
 mod number_reading;
 mod order;
 mod out;
@@ -21,9 +21,6 @@ mod tests;
 
 pub use cursor::{Cursor, Short};
 pub use internet_checksum::checksum;
-pub use laws::{
-    bytes_are_written_as_read, numbers_are_read_as_written, numbers_at_offsets_are_read_there,
-};
 pub use number_reading::{be16, be32, le16, le32};
 pub use order::Order;
 pub use out::Out;

@@ -37,7 +37,7 @@ grows_at a b now later e f g =
     let Q : Capture → Type 0 = λ c. Grows a c in
     subst P (sym e) (subst Q (sym f) g)
 
--- behind an open end anything may come
+-- after an open end anything may come
 pub grows_whole : (later : Capture) → Grows (ends Whole) later
 grows_whole later = record { rest = later; packets = refl; refused = λ b e. absurd cc }
 

@@ -86,7 +86,7 @@ header_length at bytes = slice_index bytes at % 16 * 4
 abbrev pub total_length : ℕ → List ℕ → ℕ
 total_length at bytes = be16 (at + 2) bytes
 
--- what the IPv4 header at an offset says of the datagram behind it
+-- what the IPv4 header at an offset says of the datagram after it
 abbrev pub ipv4_packet : ℕ → List ℕ → IpPacket
 ipv4_packet at bytes = record {
   src = address_at (at + 12) bytes;
@@ -108,7 +108,7 @@ ipv4_layer port time p at =
     else (if nat_lt (length p.bytes) (at + header_length at p.bytes + 8) then skip_for_missing p
     else udp_layer port time p (ipv4_packet at p.bytes)))))))
 
--- what stands behind a link header, by its protocol: so far IPv4 alone, and no tags
+-- what stands after a link header, by its protocol: so far IPv4 alone, and no tags
 abbrev pub network_layer : ℕ → ℕ → Packet → ℕ → ℕ → Found
 network_layer port time p protocol at = if nat_eq protocol 0x0800 then ipv4_layer port time p at else skipped NotIp
 
@@ -116,7 +116,7 @@ network_layer port time p protocol at = if nat_eq protocol 0x0800 then ipv4_laye
 abbrev pub ethernet_layer : ℕ → ℕ → Packet → Found
 ethernet_layer port time p = if nat_lt (length p.bytes) 14 then skip_for_missing p else network_layer port time p (be16 12 p.bytes) 14
 
--- what stands behind the link type: so far Ethernet alone
+-- what stands after the link type: so far Ethernet alone
 abbrev pub link_layer : ℕ → ℕ → Packet → Found
 link_layer port time p = if nat_eq p.link 1 then ethernet_layer port time p else skipped Link
 

@@ -39,11 +39,11 @@ pub enum EndState {
     Whole,
     /// Within the header or a record, which is no fault.
     Cut,
-    /// At a refused place, behind which nothing is read.
+    /// At a refused place, after which nothing is read.
     Bad(BadCapture),
 }
 
-/// Why a reader of a capture did not take a piece.
+/// Why a reader of a capture did not take a chunk.
 #[derive(Clone, Copy, Debug, PartialEq, Eq)]
 pub enum FeedFault {
     /// The bytes fed so far hold a refused place.

@@ -20,7 +20,7 @@ pub struct Dgram<'a> {
     pub dport: u16,
     /// The time to live of IPv4 or the hop limit of IPv6.
     pub hop: u8,
-    /// The bytes behind the UDP header, as many as its length field says.
+    /// The bytes after the UDP header, as many as its length field says.
     pub payload: &'a [u8],
     pub ghost timely: { time < end_of_time },
 }

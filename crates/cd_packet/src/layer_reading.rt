@@ -147,7 +147,7 @@ fn ipv4<'a>(packet: &'a Packet, port: u16, time: u64, at: usize) -> Layer<'a>
     udp(packet, port, time, ip)
 }
 
-// What stands behind the header of Ethernet.
+// What stands after the header of Ethernet.
 fn ethernet<'a>(packet: &'a Packet, port: u16, time: u64) -> Layer<'a>
     requires timely { time < end_of_time }
     requires header { 14 ≤ length packet.now.bytes }

@@ -1,4 +1,4 @@
--- What stands at the front of some bytes is read the same, whatever stands behind it.
+-- What stands at the front of some bytes is read the same, whatever stands after it.
 use Rattle.std.proofs.Common.{◌≡◌, ℕ, ◌+◌, ◌%◌, ◌<◌, ◌≤◌, Some, None, List, [], ◌∷◌, ◌++◌, length, take, drop, true, false, refl, ap, sym, ◌∙◌, arith, length-append}
 use Rattle.std.proofs.lemmas.Bool.{le-ltb, lt-ltb}
 use Rattle.std.proofs.lemmas.List.{take-append-drop, length-take-le, drop_all}
@@ -25,7 +25,7 @@ le16-take at n bytes within long =
     let size : length (take n bytes) ≡ n = length-take-le n bytes long in
     sym (le16-append at (take n bytes) (drop n bytes) (omega arith)) ∙ ap (λ t. le16 at t) (take-append-drop n bytes)
 
--- the records behind a header
+-- the records after a header
 pub pcap-header : (link : ℕ) (bytes more : List ℕ) → HasHeader link bytes → pcap (take 24 bytes ++ more) ≡ records little_micros link 0 24 more
 pcap-header link bytes more h =
     let size : length (take 24 bytes) ≡ 24 = length-take-le 24 bytes h.long in
@@ -35,7 +35,7 @@ pcap-header link bytes more h =
     ∙ ap (λ k. records little_micros k 0 24 (drop 24 (take 24 bytes) ++ more)) type
     ∙ ap (λ t. records little_micros link 0 24 (t ++ more)) none
 
--- a packet, and the records behind its own
+-- a packet, and the records after its own
 pub records-record : (link at size : ℕ) (bytes more : List ℕ) → HasRecord size bytes →
     records little_micros link 0 at (take size bytes ++ more) ≡ after (packet_at little_micros link at bytes ∷ []) (records little_micros link 0 (at + size) more)
 records-record link at size bytes more h =

@@ -1,4 +1,4 @@
--- Whole records, before and behind the mark.
+-- Whole records, before and after the mark.
 use Rattle.std.proofs.Common.{◌≡◌, ℕ, zero, suc, ◌+◌, ◌-◌, ◌<◌, ◌≤◌, Some, None, Option, List, [], ◌∷◌, ◌++◌, length, take, drop, refl, ap, sym, ◌∙◌, arith, inl, inr, length-append}
 use Rattle.std.proofs.lemmas.Bool.{cases_lt}
 use Rattle.std.proofs.lemmas.List.{append-nil, length-take-le, take-append-drop, drop-take, drop_all}
@@ -33,7 +33,7 @@ whole-first link at bytes h some =
       ]
     ]
 
--- a whole record, and what stands in it and behind it, however the bytes go on
+-- a whole record, and what stands in it and after it, however the bytes go on
 records-begin : (link at b : ℕ) (xs more : List ℕ) → HasRecord (16 + captured_length little_micros (b ∷ xs)) (b ∷ xs) →
     records little_micros link 0 at (b ∷ (xs ++ more)) ≡ after (packet_at little_micros link at (b ∷ xs) ∷ []) (records little_micros link (15 + captured_length little_micros (b ∷ xs)) (at + 1) (xs ++ more))
 records-begin link at b xs more h =
@@ -46,7 +46,7 @@ records-begin link at b xs more h =
     ∙ ap (λ p. after (p ∷ []) (records little_micros link (15 + captured_length little_micros (b ∷ (xs ++ more))) (at + 1) (xs ++ more))) first
     ∙ ap (λ n. after (packet_at little_micros link at (b ∷ xs) ∷ []) (records little_micros link (15 + n) (at + 1) (xs ++ more))) same
 
--- behind whole records, what stands there is read
+-- after whole records, what stands there is read
 pub records-then : (link inside at : ℕ) (xs more : List ℕ) → (records little_micros link inside at xs).end ≡ Whole →
     records little_micros link inside at (xs ++ more) ≡ after (records little_micros link inside at xs).packets (records little_micros link 0 (at + length xs) more)
 unfolding records
@@ -79,7 +79,7 @@ one_whole link at size bytes h =
 pub none_whole : (link at : ℕ) → AreWhole (Some link) at []
 none_whole link at = ap (λ (c : Capture). c.end) (records-none little_micros link at [] refl)
 
--- whole records behind whole records
+-- whole records after whole records
 pub more_whole : (link at n m : ℕ) (bytes : List ℕ) → n ≤ length bytes → AreWhole (Some link) at (take n bytes) → AreWhole (Some link) (at + n) (take m (drop n bytes)) →
     AreWhole (Some link) at (take (n + m) bytes)
 more_whole link at n m bytes within h k =
@@ -88,12 +88,12 @@ more_whole link at n m bytes within h k =
     ∙ ap (λ (c : Capture). c.end) (records-then link 0 at (take n bytes) (take m (drop n bytes)) h)
     ∙ ap (λ i. (records little_micros link 0 (at + i) (take m (drop n bytes))).end) size ∙ k
 
--- one more whole record behind whole records
+-- one more whole record after whole records
 pub one_more_whole : (link at n m : ℕ) (bytes : List ℕ) → n ≤ length bytes → AreWhole (Some link) at (take n bytes) → HasRecord m (drop n bytes) →
     AreWhole (Some link) at (take (n + m) bytes)
 one_more_whole link at n m bytes within h k = more_whole link at n m bytes within h (one_whole link (at + n) m (drop n bytes) k)
 
--- Whole records at the front of some bytes begin with one, and behind it the others are whole.
+-- Whole records at the front of some bytes begin with one, and after it the others are whole.
 pub record BeginsWhole (link at size whole : ℕ) (bytes : List ℕ) : Type 0 where
   pub first : HasRecord size bytes
   pub within : size ≤ whole
@@ -111,7 +111,7 @@ begins_whole link at whole bytes within some h =
     let fits : size ≤ whole = omega (arith, r.whole) in
     let first : HasRecord size front = record { sum = omega arith; small = r.small; whole = omega (arith, r.whole) } in
     let none : drop size (take size front) ≡ [] = drop_all size (take size front) (omega (arith, length-take-le size front first.whole)) in
-    let behind : records little_micros link 0 at front ≡ after (packet_at little_micros link at front ∷ []) (records little_micros link 0 (at + size) (drop size front)) =
+    let one : records little_micros link 0 at front ≡ after (packet_at little_micros link at front ∷ []) (records little_micros link 0 (at + size) (drop size front)) =
     ap (λ t. records little_micros link 0 at t) (sym (take-append-drop size front)) ∙ records-record link at size front (drop size front) first in
     let sum : size + (whole - size) ≡ whole = omega arith in
     let others : drop size front ≡ take (whole - size) (drop size bytes) =
@@ -119,15 +119,15 @@ begins_whole link at whole bytes within some h =
     record {
       first = record { sum = refl; small = omega (arith, r.small); whole = omega arith };
       within = fits;
-      others = ap (λ t. (records little_micros link 0 (at + size) t).end) (sym others) ∙ end_at _ _ _ behind h;
+      others = ap (λ t. (records little_micros link 0 (at + size) t).end) (sym others) ∙ end_at _ _ _ one h;
     }
 
--- what holds behind a header of any link type holds behind this one
-pub behind_header : (P : Option ℕ → Type 0) (link : Option ℕ) → IsSome link → ((l : ℕ) → P (Some l)) → P link
-behind_header P None some h = absurd cc
-behind_header P (Some l) some h = h l
+-- what holds after a header of any link type holds after this one
+pub after_header : (P : Option ℕ → Type 0) (link : Option ℕ) → IsSome link → ((l : ℕ) → P (Some l)) → P link
+after_header P None some h = absurd cc
+after_header P (Some l) some h = h l
 
--- more whole records behind the mark
+-- more whole records after the mark
 pub marked_more : (link : Option ℕ) (at n m : ℕ) (bytes : List ℕ) → IsSome link → n ≤ length bytes → AreWhole link at (take n bytes) →
     ((l : ℕ) → AreWhole (Some l) (at + n) (take m (drop n bytes))) → AreWhole link at (take (n + m) bytes)
 marked_more None at n m bytes some within h k = absurd cc

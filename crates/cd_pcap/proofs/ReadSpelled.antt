@@ -147,7 +147,7 @@ one_more form link at bytes c all small whole s =
       end = subst P far s.end;
     }
 
--- What is read behind a header is what is spelled there, for as many bytes as these.
+-- What is read after a header is what is spelled there, for as many bytes as these.
 records_from : (most : ℕ) (form : Form) (link at : ℕ) (bytes : List ℕ) → AreBytes bytes → length bytes ≤ most →
     SpellsRecords form link at bytes (records form link 0 at bytes)
 records_from most form link at [] all within = stops form link at [] Whole (records-none form link at [] refl) refl

@@ -7,7 +7,7 @@ use Rattle.cd_pcap.specs.Pcap.{Form, little_micros, version, link_type, captured
 use Rattle.cd_packet.specs.declared.capture.EndState.TheVariants.{Whole, Cut}
 use Rattle.cd_packet.specs.declared.capture.CaptureWhy.TheVariants.{Magic, Version, Record}
 
--- behind the rest of a record the next one begins
+-- after the rest of a record the next one begins
 pub records-inside : (form : Form) (link inside at : ℕ) (bytes : List ℕ) → inside ≤ length bytes →
     records form link inside at bytes ≡ records form link 0 (at + inside) (drop inside bytes)
 unfolding records

@@ -70,11 +70,11 @@ spelled_read form link at r rest fits =
     let len : length more ≡ n + length rest = length-append r.captured rest in
     let long : length bytes ≡ 16 + length more = four_long form.order r.seconds r.fraction n r.original more in
     let whole = records-whole form link at bytes (omega arith) (omega (arith, fits.captured)) (omega (arith, len)) in
-    let behind : drop 16 bytes ≡ more = after_four form.order r.seconds r.fraction n r.original more in
+    let follows : drop 16 bytes ≡ more = after_four form.order r.seconds r.fraction n r.original more in
     let front : take (captured_length form bytes) (drop 16 bytes) ≡ r.captured =
-    ap (λ k. take k (drop 16 bytes)) size ∙ ap (λ t. take n t) behind ∙ take_at r.captured rest n refl in
+    ap (λ k. take k (drop 16 bytes)) size ∙ ap (λ t. take n t) follows ∙ take_at r.captured rest n refl in
     let back : drop (16 + captured_length form bytes) bytes ≡ rest =
-    ap (λ k. drop (16 + k) bytes) size ∙ sym (drop-drop n 16 bytes) ∙ ap (λ t. drop n t) behind ∙ drop_at r.captured rest n refl in
+    ap (λ k. drop (16 + k) bytes) size ∙ sym (drop-drop n 16 bytes) ∙ ap (λ t. drop n t) follows ∙ drop_at r.captured rest n refl in
     let packet : packet_at form link at bytes ≡ packet_of_raw form link at r =
     ap (λ k. packet_of_parts form link at k (number32_at form.order 4 bytes) (number32_at form.order 12 bytes) (take (captured_length form bytes) (drop 16 bytes)))
     (first form.order r.seconds r.fraction n r.original more fits.seconds)

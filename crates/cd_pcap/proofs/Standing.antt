@@ -12,33 +12,33 @@ use Rattle.cd_packet.proofs.Growing.{after-after}
 use Rattle.cd_pcap.proofs.Records.{pcap-none, records-none}
 use Rattle.cd_pcap.specs.Fronts.{HasHeader, HasRecord}
 use Rattle.cd_pcap.specs.Laws.{GivenAreFirst}
-use Rattle.cd_pcap.specs.Reading.{Kept, AreWhole, AreOpen, AreRefused, StandsBehind, HasRead, StandsFor, reading_on, open_end, refusal_in, refusal_of}
+use Rattle.cd_pcap.specs.Reading.{Kept, AreWhole, AreOpen, AreRefused, StandsAfter, HasRead, StandsFor, reading_on, open_end, refusal_in, refusal_of}
 use Rattle.cd_pcap.proofs.Fronts.{pcap-header, records-record}
 use Rattle.cd_pcap.proofs.Marks.{records-then}
 use Rattle.cd_pcap.proofs.Refusals.{refusal-many, refusal-none}
 
--- the end of the bytes fed, from the refused place or from the bytes behind the mark
-abbrev pub end_behind : Option BadCapture → Option ℕ → List ℕ → EndState
-end_behind None link held = open_end link held
-end_behind (Some bad) link held = Bad bad
+-- the end of the bytes fed, from the refused place or from the bytes after the mark
+abbrev pub end_after : Option BadCapture → Option ℕ → List ℕ → EndState
+end_after None link held = open_end link held
+end_after (Some bad) link held = Bad bad
 
 -- the end of the bytes fed
 abbrev pub end_of : Kept → EndState
-end_of r = end_behind r.refused r.link (drop r.whole r.held)
+end_of r = end_after r.refused r.link (drop r.whole r.held)
 
--- behind the mark there is no packet
-behind_mark : (refused : Option BadCapture) (link : Option ℕ) (at : ℕ) (held behind : List ℕ) → StandsBehind refused link at held behind →
-    reading_on link at (held ++ behind) ≡ ends (end_behind refused link held)
-behind_mark None link at held behind h = ap (λ t. reading_on link at (held ++ t)) h.1 ∙ ap (λ t. reading_on link at t) (append-nil held) ∙ h.0
-behind_mark (Some bad) link at held behind h =
-    ap (λ t. reading_on link at (t ++ behind)) h.0 ∙ ap (λ t. reading_on link at t) (sym (append-nil behind)) ∙ h.1.reads []
+-- after the mark there is no packet
+after_mark : (refused : Option BadCapture) (link : Option ℕ) (at : ℕ) (held let_go : List ℕ) → StandsAfter refused link at held let_go →
+    reading_on link at (held ++ let_go) ≡ ends (end_after refused link held)
+after_mark None link at held let_go h = ap (λ t. reading_on link at (held ++ t)) h.1 ∙ ap (λ t. reading_on link at t) (append-nil held) ∙ h.0
+after_mark (Some bad) link at held let_go h =
+    ap (λ t. reading_on link at (t ++ let_go)) h.0 ∙ ap (λ t. reading_on link at t) (sym (append-nil let_go)) ∙ h.1.reads []
 
 -- the packets of whole records
 abbrev pub packets_in : Option ℕ → ℕ → List ℕ → List Packet
 packets_in None at bytes = []
 packets_in (Some link) at bytes = (records little_micros link 0 at bytes).packets
 
--- behind whole records, what stands there is read
+-- after whole records, what stands there is read
 before_mark : (link : Option ℕ) (at : ℕ) (bytes more : List ℕ) → AreWhole link at bytes →
     reading_on link at (bytes ++ more) ≡ after (packets_in link at bytes) (reading_on link (at + length bytes) more)
 before_mark None at bytes more h = ap (λ t. pcap (t ++ more)) h.1
@@ -56,12 +56,12 @@ fed_now r fed given sound h =
     let marked : List ℕ = take r.whole r.held in
     let rest : List ℕ = drop r.whole r.held in
     let size : length marked ≡ r.whole = length-take-le r.whole r.held sound.within in
-    ap (λ t. pcap t) h.read.split ∙ h.read.reads (r.held ++ h.behind)
-    ∙ ap (λ t. after given (reading_on r.link r.at (t ++ h.behind))) (sym (take-append-drop r.whole r.held))
-    ∙ ap (λ t. after given (reading_on r.link r.at t)) (append_assoc marked rest h.behind)
-    ∙ ap (λ c. after given c) (before_mark r.link r.at marked (rest ++ h.behind) sound.marked)
-    ∙ ap (λ n. after given (after (packets_in r.link r.at marked) (reading_on r.link (r.at + n) (rest ++ h.behind)))) size
-    ∙ ap (λ c. after given (after (packets_in r.link r.at marked) c)) (behind_mark r.refused r.link (r.at + r.whole) rest h.behind h.mark)
+    ap (λ t. pcap t) h.read.split ∙ h.read.reads (r.held ++ h.let_go)
+    ∙ ap (λ t. after given (reading_on r.link r.at (t ++ h.let_go))) (sym (take-append-drop r.whole r.held))
+    ∙ ap (λ t. after given (reading_on r.link r.at t)) (append_assoc marked rest h.let_go)
+    ∙ ap (λ c. after given c) (before_mark r.link r.at marked (rest ++ h.let_go) sound.marked)
+    ∙ ap (λ n. after given (after (packets_in r.link r.at marked) (reading_on r.link (r.at + n) (rest ++ h.let_go)))) size
+    ∙ ap (λ c. after given (after (packets_in r.link r.at marked) c)) (after_mark r.refused r.link (r.at + r.whole) rest h.let_go h.mark)
     ∙ after-after given (packets_in r.link r.at marked) (ends (end_of r))
 
 -- the end that the reader knows is that of the bytes fed
@@ -71,8 +71,8 @@ end_known r fed given sound h = sym (ap (λ (c : Capture). c.end) (fed_now r fed
 -- the packets given are the first of those in the bytes fed
 pub given_first : GivenAreFirst
 given_first r fed given h = (
-  (reading_on r.link r.at (r.held ++ h.behind)).packets,
-  ap (λ t. (pcap t).packets) h.read.split ∙ ap (λ (c : Capture). c.packets) (h.read.reads (r.held ++ h.behind)),
+  (reading_on r.link r.at (r.held ++ h.let_go)).packets,
+  ap (λ t. (pcap t).packets) h.read.split ∙ ap (λ (c : Capture). c.packets) (h.read.reads (r.held ++ h.let_go)),
 )
 
 -- no bytes have no packet
@@ -95,13 +95,13 @@ open_unrefused None held many = rw (le-ltb (length held) 4 (many refl)) refl
 open_unrefused (Some link) [] many = refl
 open_unrefused (Some link) (b ∷ held) many = refl
 
--- the refused place, from what stands behind the mark
-known_behind : (refused : Option BadCapture) (link : Option ℕ) (at : ℕ) (held behind fed : List ℕ) → StandsBehind refused link at held behind →
-    end_behind refused link held ≡ (pcap fed).end → length behind ≤ length fed → (link ≡ None → length fed ≡ length held + length behind) → refusal_of fed ≡ refused
-known_behind None link at held behind fed h end within all =
-    let none : length behind ≡ 0 = ap length h.1 in
+-- the refused place, from what stands after the mark
+known_after : (refused : Option BadCapture) (link : Option ℕ) (at : ℕ) (held let_go fed : List ℕ) → StandsAfter refused link at held let_go →
+    end_after refused link held ≡ (pcap fed).end → length let_go ≤ length fed → (link ≡ None → length fed ≡ length held + length let_go) → refusal_of fed ≡ refused
+known_after None link at held let_go fed h end within all =
+    let none : length let_go ≡ 0 = ap length h.1 in
     refusal-none fed (λ many. ap refusal_in (sym end) ∙ open_unrefused link held (λ first. omega (arith, all first)))
-known_behind (Some bad) link at held behind fed h end within all = refusal-many fed (omega (arith, h.1.told)) ∙ ap refusal_in (sym end)
+known_after (Some bad) link at held let_go fed h end within all = refusal-many fed (omega (arith, h.1.told)) ∙ ap refusal_in (sym end)
 
 -- no header is read before the bytes fed
 none_read : (link : Option ℕ) (at : ℕ) (bytes : List ℕ) → AreWhole link at bytes → link ≡ None → (at ≡ 0) × (length bytes ≡ 0)
@@ -117,15 +117,15 @@ header_first r sound none =
 -- the refused place that the reader remembers is that of the bytes fed
 pub refusal_known : (r : Kept) (fed : List ℕ) (given : List Packet) → IsSound r → StandsFor r fed given → refusal_of fed ≡ r.refused
 refusal_known r fed given sound h =
-    let long : length fed ≡ length h.read.front + (length r.held + length h.behind) =
-    ap length h.read.split ∙ length-append h.read.front (r.held ++ h.behind) ∙ ap (λ n. length h.read.front + n) (length-append r.held h.behind) in
-    known_behind r.refused r.link (r.at + r.whole) (drop r.whole r.held) h.behind fed h.mark (end_known r fed given sound h) (omega arith)
+    let long : length fed ≡ length h.read.front + (length r.held + length h.let_go) =
+    ap length h.read.split ∙ length-append h.read.front (r.held ++ h.let_go) ∙ ap (λ n. length h.read.front + n) (length-append r.held h.let_go) in
+    known_after r.refused r.link (r.at + r.whole) (drop r.whole r.held) h.let_go fed h.mark (end_known r fed given sound h) (omega arith)
     (λ none. let k = header_first r sound none in omega (arith, length-drop r.whole r.held, h.read.place, k.0, k.1))
 
 -- the bytes that are read have the packets given
-before_place : (r : Kept) (fed behind : List ℕ) (given : List Packet) → HasRead r fed behind given → (pcap (take r.at fed)).packets ≡ given
-before_place r fed behind given h =
-    let read : take r.at fed ≡ h.front = ap (λ t. take r.at t) h.split ∙ take_at h.front (r.held ++ behind) r.at h.place in
+before_place : (r : Kept) (fed let_go : List ℕ) (given : List Packet) → HasRead r fed let_go given → (pcap (take r.at fed)).packets ≡ given
+before_place r fed let_go given h =
+    let read : take r.at fed ≡ h.front = ap (λ t. take r.at t) h.split ∙ take_at h.front (r.held ++ let_go) r.at h.place in
     ap (λ t. (pcap t).packets) (read ∙ sym (append-nil h.front))
     ∙ ap (λ (c : Capture). c.packets) (h.reads [])
     ∙ ap (λ ps. given ++ ps) (none_on r.link r.at) ∙ append-nil given
@@ -134,14 +134,14 @@ before_place r fed behind given h =
     none_on None at = ap (λ (c : Capture). c.packets) pcap-none
     none_on (Some link) at = ap (λ (c : Capture). c.packets) (records-none little_micros link at [] refl)
 
--- a piece is held behind the other bytes
-pub held_more : (r : Kept) (piece fed : List ℕ) (given : List Packet) → HasRead r fed [] given →
-    HasRead (record r { fed_count = r.fed_count + length piece; held = r.held ++ piece }) (fed ++ piece) [] given
-held_more r piece fed given h = record {
+-- a chunk is held after the other bytes
+pub held_more : (r : Kept) (chunk fed : List ℕ) (given : List Packet) → HasRead r fed [] given →
+    HasRead (record r { fed_count = r.fed_count + length chunk; held = r.held ++ chunk }) (fed ++ chunk) [] given
+held_more r chunk fed given h = record {
   front = h.front;
-  split = ap (λ t. t ++ piece) (h.split ∙ ap (λ t. h.front ++ t) (append-nil r.held)) ∙ append_assoc h.front r.held piece
-      ∙ ap (λ t. h.front ++ t) (sym (append-nil (r.held ++ piece)));
-  count = length-append fed piece ∙ ap (λ n. n + length piece) h.count;
+  split = ap (λ t. t ++ chunk) (h.split ∙ ap (λ t. h.front ++ t) (append-nil r.held)) ∙ append_assoc h.front r.held chunk
+      ∙ ap (λ t. h.front ++ t) (sym (append-nil (r.held ++ chunk)));
+  count = length-append fed chunk ∙ ap (λ n. n + length chunk) h.count;
   place = h.place;
   reads = h.reads;
 }
@@ -165,15 +165,15 @@ header_read r link fed given none start header h =
     }
 
 -- the mark is moved
-pub mark_moved : (r : Kept) (whole : ℕ) (fed behind : List ℕ) (given : List Packet) → HasRead r fed behind given → HasRead (record r { whole = whole }) fed behind given
-mark_moved r whole fed behind given h = record { front = h.front; split = h.split; count = h.count; place = h.place; reads = h.reads }
+pub mark_moved : (r : Kept) (whole : ℕ) (fed let_go : List ℕ) (given : List Packet) → HasRead r fed let_go given → HasRead (record r { whole = whole }) fed let_go given
+mark_moved r whole fed let_go given h = record { front = h.front; split = h.split; count = h.count; place = h.place; reads = h.reads }
 
--- the bytes behind the mark are open
+-- the bytes after the mark are open
 pub open_stands : (r : Kept) (fed : List ℕ) (given : List Packet) → r.refused ≡ None → AreOpen r.link (r.at + r.whole) (drop r.whole r.held) →
     HasRead r fed [] given → StandsFor r fed given
 open_stands r fed given sound open_there h =
-    let P : Option BadCapture → Type 0 = λ o. StandsBehind o r.link (r.at + r.whole) (drop r.whole r.held) [] in
-    record { behind = []; read = h; mark = subst P (sym sound) (open_there, refl) }
+    let P : Option BadCapture → Type 0 = λ o. StandsAfter o r.link (r.at + r.whole) (drop r.whole r.held) [] in
+    record { let_go = []; read = h; mark = subst P (sym sound) (open_there, refl) }
 
 -- a refused place stands at the mark
 pub refused_stands : (r : Kept) (bad : BadCapture) (fed : List ℕ) (given : List Packet) → r.whole ≤ length r.held →
@@ -182,7 +182,7 @@ pub refused_stands : (r : Kept) (bad : BadCapture) (fed : List ℕ) (given : Lis
 refused_stands r bad fed given within refused h =
     let size : length (take r.whole r.held) ≡ r.whole = length-take-le r.whole r.held within in
     record {
-      behind = drop r.whole r.held;
+      let_go = drop r.whole r.held;
       read = record {
         front = h.front;
         split = h.split ∙ ap (λ t. h.front ++ t) (append-nil r.held) ∙ ap (λ t. h.front ++ t) (sym (take-append-drop r.whole r.held));
@@ -193,32 +193,32 @@ refused_stands r bad fed given within refused h =
       mark = (drop_all r.whole (take r.whole r.held) (omega arith), refused);
     }
 
--- a piece that comes behind a refused place is let go
-pub refused_more : (r : Kept) (bad : BadCapture) (piece fed : List ℕ) (given : List Packet) → r.refused ≡ Some bad → StandsFor r fed given →
-    StandsFor (record r { fed_count = r.fed_count + length piece }) (fed ++ piece) given
-refused_more r bad piece fed given is h =
-    let P : Option BadCapture → List ℕ → Type 0 = λ o t. StandsBehind o r.link (r.at + r.whole) (drop r.whole r.held) t in
-    let mark : P (Some bad) h.behind = subst (λ (o : Option BadCapture). P o h.behind) is h.mark in
-    let more : P (Some bad) (h.behind ++ piece) = (
+-- a chunk that comes after a refused place is let go
+pub refused_more : (r : Kept) (bad : BadCapture) (chunk fed : List ℕ) (given : List Packet) → r.refused ≡ Some bad → StandsFor r fed given →
+    StandsFor (record r { fed_count = r.fed_count + length chunk }) (fed ++ chunk) given
+refused_more r bad chunk fed given is h =
+    let P : Option BadCapture → List ℕ → Type 0 = λ o t. StandsAfter o r.link (r.at + r.whole) (drop r.whole r.held) t in
+    let mark : P (Some bad) h.let_go = subst (λ (o : Option BadCapture). P o h.let_go) is h.mark in
+    let more : P (Some bad) (h.let_go ++ chunk) = (
       mark.0,
       record {
-        told = omega (arith, mark.1.told, length-append h.behind piece);
-        reads = λ rest. ap (λ t. reading_on r.link (r.at + r.whole) t) (append_assoc h.behind piece rest) ∙ mark.1.reads (piece ++ rest);
+        told = omega (arith, mark.1.told, length-append h.let_go chunk);
+        reads = λ rest. ap (λ t. reading_on r.link (r.at + r.whole) t) (append_assoc h.let_go chunk rest) ∙ mark.1.reads (chunk ++ rest);
       },
     ) in
     record {
-      behind = h.behind ++ piece;
+      let_go = h.let_go ++ chunk;
       read = record {
         front = h.read.front;
-        split = ap (λ t. t ++ piece) h.read.split ∙ append_assoc h.read.front (r.held ++ h.behind) piece ∙ ap (λ t. h.read.front ++ t) (append_assoc r.held h.behind piece);
-        count = length-append fed piece ∙ ap (λ n. n + length piece) h.read.count;
+        split = ap (λ t. t ++ chunk) h.read.split ∙ append_assoc h.read.front (r.held ++ h.let_go) chunk ∙ ap (λ t. h.read.front ++ t) (append_assoc r.held h.let_go chunk);
+        count = length-append fed chunk ∙ ap (λ n. n + length chunk) h.read.count;
         place = h.read.place;
         reads = h.read.reads;
       };
-      mark = subst (λ (o : Option BadCapture). P o (h.behind ++ piece)) (sym is) more;
+      mark = subst (λ (o : Option BadCapture). P o (h.let_go ++ chunk)) (sym is) more;
     }
 
--- a reader behind the first record that it holds
+-- a reader after the first record that it holds
 abbrev pub passed : Kept → ℕ → Kept
 passed r size = record r { held = drop size r.held; at = r.at + size; whole = r.whole - size }
 
@@ -229,18 +229,18 @@ pub packet_passed : (r : Kept) (link size : ℕ) (p : Packet) → r.link ≡ Som
 packet_passed r link size p type first within is fed given h =
     let front : List ℕ = take size r.held in
     let long : length front ≡ size = length-take-le size r.held first.whole in
-    let read : HasRead r fed h.behind given = h.read in
+    let read : HasRead r fed h.let_go given = h.read in
     let sum : size + (r.whole - size) ≡ r.whole = omega arith in
     let far : r.at + size + (r.whole - size) ≡ r.at + r.whole = omega arith in
     let rest : drop (r.whole - size) (drop size r.held) ≡ drop r.whole r.held = drop-drop (r.whole - size) size r.held ∙ ap (λ n. drop n r.held) sum in
     let place : p.at ≡ r.at = ap (λ (q : Packet). q.at) is in (
       record {
-        behind = h.behind;
+        let_go = h.let_go;
         read = record {
           front = read.front ++ front;
-          split = read.split ∙ ap (λ t. read.front ++ (t ++ h.behind)) (sym (take-append-drop size r.held))
-              ∙ ap (λ t. read.front ++ t) (append_assoc front (drop size r.held) h.behind)
-              ∙ sym (append_assoc read.front front (drop size r.held ++ h.behind));
+          split = read.split ∙ ap (λ t. read.front ++ (t ++ h.let_go)) (sym (take-append-drop size r.held))
+              ∙ ap (λ t. read.front ++ t) (append_assoc front (drop size r.held) h.let_go)
+              ∙ sym (append_assoc read.front front (drop size r.held ++ h.let_go));
           count = read.count;
           place = omega (arith, read.place, length-append read.front front);
           reads = λ more.
@@ -252,10 +252,10 @@ packet_passed r link size p type first within is fed given h =
               ∙ ap (λ l. after (given ++ p ∷ []) (reading_on l (r.at + size) more)) (sym type);
         };
         mark =
-            let P : ℕ → List ℕ → Type 0 = λ n t. StandsBehind r.refused r.link n t h.behind in
+            let P : ℕ → List ℕ → Type 0 = λ n t. StandsAfter r.refused r.link n t h.let_go in
             subst (λ (n : ℕ). P n (drop (r.whole - size) (drop size r.held))) (sym far) (subst (λ (t : List ℕ). P (r.at + r.whole) t) (sym rest) h.mark);
       },
-      ap (λ k. (pcap (take k fed)).packets) place ∙ before_place r fed h.behind given read,
+      ap (λ k. (pcap (take k fed)).packets) place ∙ before_place r fed h.let_go given read,
     )
 
 -- The mark is moved over whole records, up to bytes that are open.
@@ -283,7 +283,7 @@ marked_refused r size bad fed given within refused h =
 -- a reader that was fed nothing
 pub nothing_stands : StandsFor (record { fed_count = 0; held = []; at = 0; whole = 0; link = None; refused = None }) [] []
 nothing_stands = record {
-  behind = [];
+  let_go = [];
   read = record { front = []; split = refl; count = refl; place = refl; reads = λ more. refl };
   mark = (pcap-none, refl);
 }
@@ -291,14 +291,14 @@ nothing_stands = record {
 -- where no refused place came, all bytes fed are read or held
 unrefused_read : (r : Kept) (fed : List ℕ) (given : List Packet) → r.refused ≡ None → StandsFor r fed given → HasRead r fed [] given
 unrefused_read r fed given sound h =
-    let P : Option BadCapture → Type 0 = λ o. StandsBehind o r.link (r.at + r.whole) (drop r.whole r.held) h.behind in
+    let P : Option BadCapture → Type 0 = λ o. StandsAfter o r.link (r.at + r.whole) (drop r.whole r.held) h.let_go in
     let mark : P None = subst P sound h.mark in
     subst (λ (t : List ℕ). HasRead r fed t given) mark.1 h.read
 
--- a piece comes where no refused place came
-pub piece_held : (r : Kept) (piece fed : List ℕ) (given : List Packet) → r.refused ≡ None → StandsFor r fed given →
-    HasRead (record r { fed_count = r.fed_count + length piece; held = r.held ++ piece }) (fed ++ piece) [] given
-piece_held r piece fed given sound h = held_more r piece fed given (unrefused_read r fed given sound h)
+-- a chunk comes where no refused place came
+pub chunk_held : (r : Kept) (chunk fed : List ℕ) (given : List Packet) → r.refused ≡ None → StandsFor r fed given →
+    HasRead (record r { fed_count = r.fed_count + length chunk; held = r.held ++ chunk }) (fed ++ chunk) [] given
+chunk_held r chunk fed given sound h = held_more r chunk fed given (unrefused_read r fed given sound h)
 
 -- the header is refused
 pub header_refused : (r : Kept) (bad : BadCapture) (fed : List ℕ) (given : List Packet) → IsSound r → r.link ≡ None → AreRefused None 0 bad r.held →

@@ -28,7 +28,7 @@ HeaderIs bytes (header.Link link) = HasHeader link bytes
 HeaderIs bytes header.Open = AreOpen None 0 bytes
 HeaderIs bytes (header.Refused bad) = AreRefused None 0 bad bytes
 
--- a record of this size, or why there is none, behind a header of any link type
+-- a record of this size, or why there is none, after a header of any link type
 abbrev pub FrontIs : ℕ → List ℕ → Front → Type 0
 FrontIs at bytes (front.Record size) = HasRecord size bytes
 FrontIs at bytes front.Open = (link : ℕ) → AreOpen (Some link) at bytes
@@ -39,7 +39,7 @@ abbrev pub IsStopped : Option BadCapture → ℕ → ℕ → List ℕ → Type 0
 IsStopped None link at bytes = AreOpen (Some link) at bytes
 IsStopped (Some bad) link at bytes = AreRefused (Some link) at bad bytes
 
--- whole records up to bytes that are open or refused, behind a header of any link type
+-- whole records up to bytes that are open or refused, after a header of any link type
 pub record RecordsAre (at : ℕ) (bytes : List ℕ) (r : Records) : Type 0 where
   pub within : r.size ≤ length bytes
   pub whole : (link : ℕ) → AreWhole (Some link) at (take r.size bytes)

@@ -8,7 +8,7 @@ use Rattle.cd_packet.specs.declared.packet.Packet.{Packet}
 use Rattle.cd_pcap.specs.Pcap.{pcap}
 use Rattle.cd_pcap.specs.Reading.{Kept, StandsFor, refusal_of}
 
--- The history after a call of `feed`: a piece is taken exactly where the bytes fed hold no refused place.
+-- The history after a call of `feed`: a chunk is taken exactly where the bytes fed hold no refused place.
 abbrev pub Feeds : {U : Type 0} → Kept → List ℕ → List Packet → Result U FeedFault → Type 0
 Feeds new fed given (Ok u) = StandsFor new fed given × (refusal_of fed ≡ None)
 Feeds new fed given (Err (Bad bad)) = StandsFor new fed given × (refusal_of fed ≡ Some bad)

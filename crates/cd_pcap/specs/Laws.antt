@@ -16,7 +16,8 @@ ReadIsSpelled = (bytes : List ℕ) → All (λ byte. byte < 256) bytes → Spell
 abbrev pub SpelledIsRead : Type 0
 SpelledIsRead = (bytes : List ℕ) (c : Capture) → All (λ byte. byte < 256) bytes → Spells bytes c → pcap bytes ≡ c
 
--- Any record that fits, spelled in any form, and then any bytes, is read as the packet that it means, and then what those bytes hold.
+-- Any record that fits, spelled in any form, and then any bytes, is read as the packet that it means, and then what those
+-- bytes hold.
 abbrev pub RecordsAreRead : Type 0
 RecordsAreRead = (form : Form) (link at : ℕ) (r : RawRecord) (rest : List ℕ) → Fits r →
     records form link 0 at (spelling_of form r ++ rest) ≡ after (packet_of_raw form link at r ∷ []) (records form link 0 (at + (16 + length r.captured)) rest)

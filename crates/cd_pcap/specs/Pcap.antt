@@ -10,7 +10,7 @@ use Rattle.cd_packet.specs.Magic.{has_magic}
 use Rattle.cd_packet.specs.Time.{when_at, when_at-timely}
 use Rattle.cd_packet.specs.Capture.{Capture, ends, refused_capture, after}
 
--- the form of a capture: the order of its numbers, and how many nanoseconds a unit of a fraction of a second has, 1000 or 1
+-- the form of a capture: the order of its numbers, and how many nanoseconds a unit of its fractions has, 1000 or 1
 pub record Form : Type 0 where
   pub order : Order
   pub unit : ℕ
@@ -64,7 +64,7 @@ records form link zero at (b ∷ bytes) =
     else (if nat_lt (length (b ∷ bytes)) (16 + captured_length form (b ∷ bytes)) then ends Cut
     else after (packet_at form link at (b ∷ bytes) ∷ []) (records form link (15 + captured_length form (b ∷ bytes)) (at + 1) bytes)))
 
--- a capture that begins with the magic of this form: a header of 24 bytes with the version and the link type, and then the records
+-- a capture that begins with the magic of this form: a header of 24 bytes, with the version and the link type, and records
 unfoldable pub pcap_in : Form → List ℕ → Capture
 pcap_in form bytes =
     if nat_lt (length bytes) 24 then ends Cut

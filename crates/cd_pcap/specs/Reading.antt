@@ -16,7 +16,7 @@ pub record Kept : Type 0 where
   pub held : List ℕ
   -- their offset in the capture
   pub at : ℕ
-  -- so many of the bytes held are whole records: the mark stands behind them
+  -- so many of the bytes held are whole records: the mark stands after them
   pub whole : ℕ
   -- the link type, once the header is read
   pub link : Option ℕ
@@ -48,25 +48,25 @@ pub record AreRefused (link : Option ℕ) (at : ℕ) (bad : BadCapture) (bytes :
   pub told : 4 ≤ length bytes
   pub reads : (more : List ℕ) → reading_on link at (bytes ++ more) ≡ ends (Bad bad)
 
--- what stands behind the mark: bytes that are all held and open, or a refused place, from which on nothing is held
-abbrev pub StandsBehind : Option BadCapture → Option ℕ → ℕ → List ℕ → List ℕ → Type 0
-StandsBehind None link at held behind = AreOpen link at held × (behind ≡ [])
-StandsBehind (Some bad) link at held behind = (held ≡ []) × AreRefused link at bad behind
+-- what stands after the mark: bytes that are all held and open, or a refused place, from which on nothing is held
+abbrev pub StandsAfter : Option BadCapture → Option ℕ → ℕ → List ℕ → List ℕ → Type 0
+StandsAfter None link at held let_go = AreOpen link at held × (let_go ≡ [])
+StandsAfter (Some bad) link at held let_go = (held ≡ []) × AreRefused link at bad let_go
 
--- Of the bytes fed, the first are read, the next are held, and those behind are let go. However the bytes go on behind
+-- Of the bytes fed, the first are read, the next are held, and the last are let go. However the bytes go on after
 -- those that are read, the capture is the packets given, and then what is read from here on.
-pub record HasRead (r : Kept) (fed behind : List ℕ) (given : List Packet) : Type 0 where
+pub record HasRead (r : Kept) (fed let_go : List ℕ) (given : List Packet) : Type 0 where
   pub front : List ℕ
-  pub split : fed ≡ front ++ (r.held ++ behind)
+  pub split : fed ≡ front ++ (r.held ++ let_go)
   pub count : length fed ≡ r.fed_count
   pub place : length front ≡ r.at
   pub reads : (more : List ℕ) → pcap (front ++ more) ≡ after given (reading_on r.link r.at more)
 
--- The reader stands for the bytes fed and the packets given: some bytes are read, and behind the mark no whole record stands.
+-- The reader stands for the bytes fed and the packets given: some bytes are read, and after the mark no whole record stands.
 pub record StandsFor (r : Kept) (fed : List ℕ) (given : List Packet) : Type 0 where
-  pub behind : List ℕ
-  pub read : HasRead r fed behind given
-  pub mark : StandsBehind r.refused r.link (r.at + r.whole) (drop r.whole r.held) behind
+  pub let_go : List ℕ
+  pub read : HasRead r fed let_go given
+  pub mark : StandsAfter r.refused r.link (r.at + r.whole) (drop r.whole r.held) let_go
 
 -- the refused place of an end
 abbrev pub refusal_in : EndState → Option BadCapture

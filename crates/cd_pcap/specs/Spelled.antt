@@ -18,8 +18,8 @@ magic_number unit = if nat_eq unit 1 then 0xa1b23c4d else 0xa1b2c3d4
 abbrev pub magic : Form → List ℕ
 magic form = bytes_of w32 form.order (magic_number form.unit)
 
--- what a header says: 14 bytes that change nothing here (minor version, time zone, accuracy, greatest captured length), and the
--- word whose low half is the link type
+-- what a header says: 14 bytes that change nothing here (minor version, time zone, accuracy, greatest captured length),
+-- and the word whose low half is the link type
 pub record RawHeader : Type 0 where
   pub unread : List ℕ
   pub link_word : ℕ
@@ -95,7 +95,7 @@ IsRest form at rest Whole = rest ≡ []
 IsRest form at rest Cut = IsCutRecord form rest
 IsRest form at rest (Bad bad) = (bad ≡ record { at = at; why = Record }) × IsTooLong form rest
 
--- These bytes behind the header, at this offset, are whole records and a rest, which hold this.
+-- These bytes after the header, at this offset, are whole records and a rest, which hold this.
 pub record SpellsRecords (form : Form) (link at : ℕ) (bytes : List ℕ) (c : Capture) : Type 0 where
   pub raws : List RawRecord
   pub fit : AllByRecursion Fits raws

@@ -1,4 +1,4 @@
-//! A reader of a pcap capture that comes in pieces.
+//! A reader of a pcap capture that comes in chunks.
 
 ghost use Rattle.std.specs.Prelude.{◌≡◌, ℕ, ◌+◌, ◌≤◌, ◌^◌, [], ◌++◌, List, length, take, drop, Some, None, IsSome, OnOk, OnErr};
 
@@ -10,7 +10,7 @@ use std::marker::Model;
 // As many read bytes may stay in memory.
 const MOST_READ: usize = 65_536;
 
-/// Reads a pcap capture that comes in pieces: little-endian, microseconds (the pcap draft, 4 and 5).
+/// Reads a pcap capture that comes in chunks: little-endian, microseconds (the pcap draft, 4 and 5).
 #[derive(Drop)]
 pub struct PcapReader {
     alloc: Global,
@@ -74,15 +74,15 @@ impl PcapReader {
         }
     }
 
-    // Holds a piece behind the other bytes. An `Err` says that no memory was found.
-    fn hold(&mut self, piece: &[u8]) -> Result<(), AllocError>
-        requires { self.old.fed_count + length piece.now ≤ 2 ^ 48 }
-        ensures ok { OnOk result (self.new ≡ record self.old { fed_count = self.old.fed_count + length piece.now; held = self.old.held ++ piece.now }) }
+    // Holds a chunk after the other bytes. An `Err` says that no memory was found.
+    fn hold(&mut self, chunk: &[u8]) -> Result<(), AllocError>
+        requires { self.old.fed_count + length chunk.now ≤ 2 ^ 48 }
+        ensures ok { OnOk result (self.new ≡ record self.old { fed_count = self.old.fed_count + length chunk.now; held = self.old.held ++ chunk.now }) }
         ensures err { OnErr result (self.new ≡ self.old) }
     {
         self.drop_read();
-        self.bytes.extend_from_slice(piece)?;
-        self.fed_count += piece.len() as u64;
+        self.bytes.extend_from_slice(chunk)?;
+        self.fed_count += chunk.len() as u64;
         Ok(())
     }
 
@@ -105,7 +105,7 @@ impl PcapReader {
         self.link = Some(link);
     }
 
-    // Moves the mark behind the whole records that are held behind the header, up to a refused place.
+    // Moves the mark after the whole records that are held after the header, up to a refused place.
     fn mark_records(&mut self)
         requires header { IsSome self.old.link }
         requires sound { self.old.refused ≡ None }
@@ -140,20 +140,21 @@ impl PcapReader {
         }
     }
 
-    /// Takes the next piece of the capture, of which all pieces have at most 2^48 bytes. `Bad` says that the bytes fed hold
+    /// Takes the next chunk of the capture, of which all chunks have at most 2^48 bytes. `Bad` says that the bytes fed hold
     /// this refused place: each later call says so again, and `next` still gives the packets before it. `NoMemory` says that
     /// nothing changed, and the call can be made again.
-    pub fn feed(&mut self, piece: &[u8]) -> Result<(), FeedFault>
-        requires { self.old.fed_count + length piece.now ≤ 2 ^ 48 }
-        ensures history { (fed : List ℕ) (given : List Packet) → StandsFor self.old fed given → Feeds self.new (fed ++ piece.now) given result }
+    pub fn feed(&mut self, chunk: &[u8]) -> Result<(), FeedFault>
+        requires { self.old.fed_count + length chunk.now ≤ 2 ^ 48 }
+        ensures history { (fed : List ℕ) (given : List Packet) → StandsFor self.old fed given
+            → Feeds self.new (fed ++ chunk.now) given result }
         ensures again { RefusesAgain self.old result }
-        ensures count { Counts self.old self.new (length piece.now) result }
+        ensures count { Counts self.old self.new (length chunk.now) result }
     {
         if let Some(bad) = self.refused {
-            self.fed_count += piece.len() as u64;
+            self.fed_count += chunk.len() as u64;
             return Err(FeedFault::Bad(bad));
         }
-        match self.hold(piece) {
+        match self.hold(chunk) {
             Err(AllocError) => return Err(FeedFault::NoMemory),
             Ok(()) => {}
         }
@@ -167,7 +168,8 @@ impl PcapReader {
     /// The next packet, where the bytes fed hold one more before a refused place. For want of memory nothing changes, and
     /// the call can be made again.
     pub fn next(&mut self) -> Result<Option<Packet>, AllocError>
-        ensures history { (fed : List ℕ) (given : List Packet) → StandsFor self.old fed given → Gives self.new fed given result }
+        ensures history { (fed : List ℕ) (given : List Packet) → StandsFor self.old fed given
+            → Gives self.new fed given result }
         ensures unchanged { OnErr result (self.new ≡ self.old) }
         ensures count { self.new.fed_count ≡ self.old.fed_count }
         ensures shrinks { Shrinks self.old self.new result }
@@ -190,7 +192,8 @@ impl PcapReader {
 
     /// How the bytes fed end. Fewer than four are no capture.
     pub fn end(&self) -> EndState
-        ensures { (fed : List ℕ) (given : List Packet) → StandsFor self.now fed given → result ≡ (pcap fed).end }
+        ensures { (fed : List ℕ) (given : List Packet) → StandsFor self.now fed given
+            → result ≡ (pcap fed).end }
     {
         match self.refused {
             Some(bad) => EndState::Bad(bad),

@@ -38,7 +38,7 @@ pub enum Header {
     Refused(BadCapture),
 }
 
-/// What stands at the front of some bytes behind the header.
+/// What stands at the front of some bytes after the header.
 #[derive(Drop)]
 pub enum Front {
     /// A whole record of this many bytes.
@@ -49,12 +49,12 @@ pub enum Front {
     Refused(BadCapture),
 }
 
-/// The whole records at the front of some bytes behind the header.
+/// The whole records at the front of some bytes after the header.
 #[derive(Drop)]
 pub struct Records {
     /// How many bytes they have.
     pub size: usize,
-    /// The refused place behind them, where it came.
+    /// The refused place after them, where it came.
     pub refused: Option<BadCapture>,
 }
 
@@ -84,7 +84,7 @@ pub fn header_of(bytes: &[u8]) -> Header
     Header::Link((le32(bytes, 20) % 0x1_0000) as u16)
 }
 
-// What stands at the front of these bytes behind the header, at this offset (the pcap draft, 5).
+// What stands at the front of these bytes after the header, at this offset (the pcap draft, 5).
 fn front_of(at: u64, bytes: &[u8]) -> Front
     ensures { FrontIs at bytes.now result }
 {
@@ -104,7 +104,7 @@ fn front_of(at: u64, bytes: &[u8]) -> Front
     Front::Record(RECORD_HEADER + size as usize)
 }
 
-/// The whole records at the front of these bytes behind the header, at this offset.
+/// The whole records at the front of these bytes after the header, at this offset.
 pub fn whole_records(at: u64, bytes: &[u8]) -> Records
     requires { at + length bytes.now ≤ 2 ^ 48 }
     ensures { RecordsAre at bytes.now result }
@@ -172,7 +172,7 @@ fn time_of(seconds: u32, micros: u32) -> When
     }
 }
 
-/// The packet of the whole record at the front of these bytes behind the header, at this offset (the pcap draft, 5).
+/// The packet of the whole record at the front of these bytes after the header, at this offset (the pcap draft, 5).
 pub fn packet_of(alloc: Global, link: u16, at: u64, bytes: &[u8]) -> Result<Packet, AllocError>
     requires { 16 + captured_length little_micros bytes.now ≤ length bytes.now }
     ensures { IfOk result (λ p. p ≡ packet_at little_micros link at bytes.now) }

@@ -61,9 +61,13 @@ FailsAsListed s result = is_err result ≡ list_any (λ k. nat_eq k s.calls) s.f
 abbrev pub CountsFaults : MemSource → MemSource → {T E : Type 0} → Result T E → Type 0
 CountsFaults old new result = MatchResult result (λ _. new.faults ≡ old.faults) (λ _. new.faults ≡ next_count old.faults)
 
--- what is given is what is left, as far as it fits
+-- what a `MemSource` gives is what is left, as far as it fits
 abbrev pub GivesAsManyAsFit : MemSource → {E : Type 0} → Result ℕ E → List ℕ → Type 0
 GivesAsManyAsFit s result buf = IfOk result (λ n. n ≡ min (length s.bytes - s.at) (length buf))
+
+-- what a `SureSource` gives is what is left, as far as it fits
+abbrev pub SureGivesAsManyAsFit : SureSource → {E : Type 0} → Result ℕ E → List ℕ → Type 0
+SureGivesAsManyAsFit s result buf = IfOk result (λ n. n ≡ min (length s.bytes - s.at) (length buf))
 
 -- what a `CutSource` means
 abbrev pub cut_source : CutSource → SourceMeaning
@@ -76,22 +80,22 @@ cut_source s = record {
   late = false;
 }
 
--- the sizes of the pieces
+-- the sizes of the chunks
 abbrev pub cut_source_sizes : CutSource → List ℕ
 cut_source_sizes s = s.sizes
 
--- the room of a piece: its size where there is one, and at least 1; else the buffer's
-abbrev pub piece_room : Option ℕ → ℕ → ℕ
-piece_room None buffer = buffer
-piece_room (Some size) buffer = max size 1
+-- the room of a chunk: its size where there is one, and at least 1; else the buffer's
+abbrev pub chunk_room : Option ℕ → ℕ → ℕ
+chunk_room None buffer = buffer
+chunk_room (Some size) buffer = max size 1
 
--- the room of the next piece
+-- the room of the next chunk
 abbrev pub cut_room : CutSource → ℕ → ℕ
-cut_room s buffer = piece_room (slice_get s.sizes s.calls) buffer
+cut_room s buffer = chunk_room (slice_get s.sizes s.calls) buffer
 
--- what is given is what is left, as far as the piece and the buffer have room
-abbrev pub GivesPiece : CutSource → {E : Type 0} → Result ℕ E → List ℕ → Type 0
-GivesPiece s result buf = IfOk result (λ n. n ≡ min (length s.bytes - s.at) (min (cut_room s (length buf)) (length buf)))
+-- what is given is what is left, as far as the chunk and the buffer have room
+abbrev pub GivesChunk : CutSource → {E : Type 0} → Result ℕ E → List ℕ → Type 0
+GivesChunk s result buf = IfOk result (λ n. n ≡ min (length s.bytes - s.at) (min (cut_room s (length buf)) (length buf)))
 
 -- what a `MemSink` means
 abbrev pub mem_sink : MemSink → SinkMeaning

@@ -8,7 +8,7 @@ use crate::copying::give_front;
 use crate::{Failed, Source};
 use cd_name::{Blob, List};
 
-/// Bytes in memory that come in pieces of given sizes, and never fail to come.
+/// Bytes in memory that come in chunks of listed sizes, and never fail to come.
 ///
 /// Call `k`, from 0, gives at most `sizes[k]` bytes, where a size of 0 stands for 1. After the list only the buffer limits.
 #[derive(Drop)]
@@ -24,7 +24,7 @@ pub struct CutSource {
 impl CutSource {
     ghost use Rattle.cd_ports.specs.Memory.{cut_source, cut_source_sizes, cut_room, fresh_source};
 
-    /// A source of these bytes, in pieces of these sizes.
+    /// A source of these bytes, in chunks of these sizes.
     pub fn new(bytes: Blob, sizes: List<usize>) -> CutSource
         ensures meaning { cut_source result ≡ fresh_source bytes }
         ensures sizes { cut_source_sizes result ≡ sizes }
@@ -50,7 +50,7 @@ impl CutSource {
 }
 
 impl Source for CutSource {
-    ghost use Rattle.cd_ports.specs.Memory.{cut_source, cut_source_sizes, GivesPiece};
+    ghost use Rattle.cd_ports.specs.Memory.{cut_source, cut_source_sizes, GivesChunk};
 
     ghost means = { cut_source };
 
@@ -64,7 +64,7 @@ impl Source for CutSource {
         ensures calls { (cut_source self.new).calls ≡ next_count (cut_source self.old).calls }
         ensures late { (cut_source self.new).late
             ≡ ((cut_source self.old).late || ((cut_source self.old).failed && gives_byte result)) }
-        ensures piece { GivesPiece self.old result buf.new }
+        ensures chunk { GivesChunk self.old result buf.new }
         ensures sizes { cut_source_sizes self.new ≡ cut_source_sizes self.old }
     {
         let room = self.room(buf.len());

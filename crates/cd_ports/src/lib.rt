@@ -8,6 +8,10 @@
 //!
 //! A fault is a call that failed. The count of faults never falls, and rises where a call fails. Counts stand still at
 //! 2^64 - 1.
+//!
+//! An example: a `CutSource` of the five bytes `abcde` and the sizes 2 and 0 gives, to a buffer of four bytes, the chunks
+//! `ab`, `c` and `de`, and then tells the end by `Ok(0)`. A `MemSink` whose call 1 fails and keeps two bytes is written `abc`,
+//! `defg` and `h`: the second call answers `Failed`, and the sink holds `abcdeh`.
 #![tactic(auto)]
 
 mod copying;

@@ -35,12 +35,22 @@ impl SureSource {
 }
 
 impl Source for SureSource {
-    ghost use Rattle.cd_ports.specs.Memory.{sure_source};
+    ghost use Rattle.cd_ports.specs.Memory.{sure_source, SureGivesAsManyAsFit};
 
     ghost means = { sure_source };
 
     #[tactic(auto, using(crate::proofs::Giving::gave))]
-    fn read(&mut self, buf: &mut [u8]) -> Result<usize, Failed> {
+    fn read(&mut self, buf: &mut [u8]) -> Result<usize, Failed>
+        ensures bound { ReadsAtMost result buf.new }
+        ensures bytes { ReadConsumes (sure_source self.old).left (sure_source self.new).left result buf.new }
+        ensures cause { HasCause (sure_source self.old).faults (sure_source self.new).faults result }
+        ensures ended { (sure_source self.new).ended ≡ tells_end result buf.new }
+        ensures failed { (sure_source self.new).failed ≡ ((sure_source self.old).failed || is_err result) }
+        ensures calls { (sure_source self.new).calls ≡ next_count (sure_source self.old).calls }
+        ensures late { (sure_source self.new).late
+            ≡ ((sure_source self.old).late || ((sure_source self.old).failed && gives_byte result)) }
+        ensures much { SureGivesAsManyAsFit self.old result buf.new }
+    {
         let count = give_front(&self.bytes.as_slice()[self.at..], buf.len(), buf);
         self.calls = self.calls.saturating_add(1);
         self.at += count;

@@ -3,6 +3,7 @@ use crate::{
 };
 use cd_name::{Blob, List};
 use std::alloc::{AllocError, Global};
+use std::io::{self, Write};
 
 fn bytes_of(alloc: Global, bytes: &[u8]) -> Result<Blob, AllocError> {
     Ok(Blob::from_vec(Vec::from_slice(alloc, bytes)?))
@@ -23,7 +24,7 @@ fn a_source_fails_where_it_is_listed(rt: HostRuntime) -> Result<(), AllocError> 
 }
 
 #[test]
-fn a_source_in_pieces_gives_their_sizes(rt: HostRuntime) -> Result<(), AllocError> {
+fn a_source_in_chunks_gives_their_sizes(rt: HostRuntime) -> Result<(), AllocError> {
     let alloc = rt.alloc();
     let sizes = List::from_vec(vec![in alloc; 2usize, 0, 9]?);
     let mut src = CutSource::new(bytes_of(alloc, b"abcdefgh")?, sizes);
@@ -68,4 +69,27 @@ fn a_std_reader_is_read_to_its_end(rt: HostRuntime) {
     assert!(rt; src.read(&mut buf) == Ok(2));
     assert!(rt; buf == *b"dec");
     assert!(rt; src.read(&mut buf) == Ok(0));
+}
+
+// A writer that takes each byte, and whose every flush fails.
+#[derive(Drop)]
+struct Unflushed;
+
+impl Write for Unflushed {
+    fn write(&mut self, buf: &[u8]) -> io::Result<usize> {
+        Ok(buf.len())
+    }
+
+    fn flush(&mut self) -> io::Result<()> {
+        Err(io::Error::from(AllocError))
+    }
+}
+
+#[test]
+fn a_flush_that_fails_is_a_fault(rt: HostRuntime) {
+    let mut out = StdSink::new(Unflushed);
+    assert!(rt; out.write(b"abc") == Err(SinkFault::Failed));
+    assert!(rt; out.faults == 1 && out.failed);
+    assert!(rt; out.write(b"d") == Err(SinkFault::Failed));
+    assert!(rt; out.faults == 2 && out.failed);
 }

@@ -2,7 +2,7 @@ use Rattle.std.proofs.Common.{◌≡◌, ℕ, ◌+◌, ◌≤◌, None, Option, 
 use Rattle.std.proofs.lemmas.List.{length-drop, drop-drop, take_rest}
 use Rattle.cd_pcap.specs.Reading.{AreOpen, AreRefused}
 use Rattle.cd_pcap.proofs.Inside.{held_in, marked_inside, sound_inside}
-use Rattle.cd_pcap.proofs.Marks.{behind_header}
+use Rattle.cd_pcap.proofs.Marks.{after_header}
 use Rattle.cd_pcap.proofs.Standing.{marked_open, marked_refused}
 use Rattle.cd_pcap.proofs.pcap_reader.PcapReader.mark_records.Goals as goal
 
@@ -27,7 +27,7 @@ returns-in-None-clause-history c =
     let header : IsSome c.self.inside.link = rw (← c.self.view_is) at c.requires.header in
     let sound : c.self.inside.refused ≡ None = rw (← c.self.view_is) at c.requires.sound in
     let P : Option ℕ → Type 0 = λ l. AreOpen l (c.self.inside.at + whole + size) (drop size (drop whole (held_in c.self.inside))) in
-    rw (← c.self.view_is) (λ fed given h. marked_open _ size fed given sound (behind_header P c.self.inside.link header stopped) h)
+    rw (← c.self.view_is) (λ fed given h. marked_open _ size fed given sound (after_header P c.self.inside.link header stopped) h)
 
 pub returns-in-Some-clause-history : goal.returns-in-Some-clause-history
 returns-in-Some-clause-history c =
@@ -39,4 +39,4 @@ returns-in-Some-clause-history c =
     let sound = sound_inside c.self.inside c.self.invariant in
     let within : whole + size ≤ length (held_in c.self.inside) = omega (arith, k.within, sound.within, length-drop whole (held_in c.self.inside)) in
     let P : Option ℕ → Type 0 = λ l. AreRefused l (c.self.inside.at + whole + size) c.in-Some.bad (drop size (drop whole (held_in c.self.inside))) in
-    rw (c.refuse.ensures, ← c.self.view_is) (λ fed given h. marked_refused _ size c.in-Some.bad fed given within (behind_header P c.self.inside.link header stopped) h)
+    rw (c.refuse.ensures, ← c.self.view_is) (λ fed given h. marked_refused _ size c.in-Some.bad fed given within (after_header P c.self.inside.link header stopped) h)
