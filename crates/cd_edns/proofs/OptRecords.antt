@@ -1,8 +1,7 @@
 -- OPT records among others, and the settings that they hold.
-use Rattle.std.proofs.Common.{◌≡◌, ◌≢◌, ℕ, ◌+◌, ◌*◌, ◌/◌, ◌%◌, ◌≤◌, ◌<◌, Bool, List, [], ◌∷◌, length, Option, None, Some, refl, sym, ap, ◌∙◌, length-append, arith, true, false, inl, inr, nat_eq, cond}
+use Rattle.std.proofs.Common.{◌≡◌, ◌≢◌, ℕ, ◌+◌, ◌*◌, ◌/◌, ◌%◌, ◌≤◌, ◌<◌, Bool, List, [], ◌∷◌, length, None, Some, refl, sym, ap, ◌∙◌, length-append, arith, true, false, inl, inr, nat_eq, cond}
 use Rattle.std.specs.Prelude.{nat_le}
 use Rattle.std.specs.List.{All, find, count_by}
-use Rattle.std.specs.Option.{option_map}
 use Rattle.std.proofs.lemmas.List.Elements.{All-nil, All-cons, All-head, All-tail, All-push}
 use Rattle.std.proofs.lemmas.List.Sums.{sum_by-cons, sum_by-append, count_by-le-length}
 use Rattle.std.proofs.lemmas.List.Folds.{find-append}
@@ -36,7 +35,7 @@ find-none (r ∷ rs) all =
     ]
 
 -- records among which none is found have no OPT record
-none_found : (records : List Rr) → find is_opt records ≡ None → All IsNoOpt records
+pub none_found : (records : List Rr) → find is_opt records ≡ None → All IsNoOpt records
 none_found [] none = All-nil IsNoOpt
 none_found (r ∷ rs) none =
     elim (cases_Bool (nat_eq r.rtype OPT)) [
@@ -44,18 +43,9 @@ none_found (r ∷ rs) none =
       | inr other ↦ All-cons IsNoOpt r rs (eqb-false r.rtype OPT other) (none_found rs (rw other at none))
     ]
 
--- what has no meaning is none
-unmapped : (found : Option Rr) → option_map opt_of_record found ≡ None → found ≡ None
-unmapped None none = refl
-unmapped (Some r) none = absurd (cc none)
-
--- records of which no OPT record means anything have none
-pub none_means : (records : List Rr) → None ≡ option_map opt_of_record (find is_opt records) → All IsNoOpt records
-none_means records none = none_found records (unmapped (find is_opt records) (sym none))
-
--- records of which an OPT record means something have one
-pub some_means : (records : List Rr) (opt : Opt) → Some opt ≡ option_map opt_of_record (find is_opt records) → All IsNoOpt records → ⊥
-some_means records opt some all = none-some opt (sym (some ∙ ap (option_map opt_of_record) (find-none records all)))
+-- records among which one is found have one
+pub some_found : (records : List Rr) (r : Rr) → Some r ≡ find is_opt records → All IsNoOpt records → ⊥
+some_found records r some all = none-some r (sym (some ∙ find-none records all))
 
 -- a test that does not hold counts nothing
 nothing_counted : (b : Bool) → b ≡ false → ◌≡◌ {A = ℕ} (cond b 1 0) 0
@@ -101,7 +91,7 @@ with_opt_is_valid message opt none valid room short =
 top_byte : (e v f : ℕ) → v < 256 → f < 65536 → (e * 16777216 + v * 65536 + f) / 16777216 ≡ e
 top_byte e v f h k = omega arith
 
--- the byte behind it
+-- the byte after it
 next_byte : (e v f : ℕ) → v < 256 → f < 65536 → (e * 16777216 + v * 65536 + f) / 65536 % 256 ≡ v
 next_byte e v f h k = omega arith
 

@@ -33,7 +33,7 @@ opt_of_message message = option_map opt_of_record (find is_opt message.additiona
 abbrev pub full_rcode_of : Message → ℕ
 full_rcode_of message = message.bits % 16 + 16 * option_map_or ext_rcode_of (find is_opt message.additional) 0
 
--- a TTL of these fields; the bits behind DO are 0
+-- a TTL of these fields; the bits after DO are 0
 abbrev pub ttl_of_opt : ℕ → ℕ → Bool → ℕ
 ttl_of_opt ext_rcode version dnssec_ok = ext_rcode * 16777216 + version * 65536 + (if dnssec_ok then 32768 else 0)
 
@@ -41,7 +41,7 @@ ttl_of_opt ext_rcode version dnssec_ok = ext_rcode * 16777216 + version * 65536 
 abbrev pub record_of_opt : Opt → Rr
 record_of_opt opt = record { owner = 0 ∷ []; rtype = OPT; rclass = opt.udp_size; ttl = ttl_of_opt opt.ext_rcode opt.version opt.dnssec_ok; rdata = opt.rdata }
 
--- the message with an OPT record behind its additional records
+-- the message with an OPT record after its additional records
 abbrev pub with_opt : Message → Opt → Message
 with_opt message opt = record message { additional = message.additional ++ record_of_opt opt ∷ [] }
 

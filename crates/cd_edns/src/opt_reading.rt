@@ -9,21 +9,21 @@ use crate::opt_record::{Opt, OptRef};
 use cd_message::{Message, OPT, Rr};
 use std::alloc::{AllocError, Global};
 
-/// The first OPT record of some records.
+// The first OPT record of some records.
 fn opt_record(records: &[Rr]) -> Option<&Rr>
     ensures { option_copied result ≡ find is_opt records.now }
 {
     records.iter().find(|record| record.rtype == OPT)
 }
 
-/// The high eight bits of the full RCODE, in an OPT record.
+// The high eight bits of the full RCODE, in an OPT record.
 fn ext_rcode_of(opt: &Rr) -> u8
     ensures { result ≡ ext_rcode_of opt.now }
 {
     (opt.ttl / 16777216) as u8
 }
 
-/// What an OPT record means.
+// What an OPT record means.
 fn opt_ref_of_record(opt: &Rr) -> OptRef<'_>
     ensures { opt_seen result ≡ opt_of_record opt.now }
 {
@@ -36,9 +36,10 @@ fn opt_ref_of_record(opt: &Rr) -> OptRef<'_>
     }
 }
 
-/// What a message's OPT record means, if it has one, with the options borrowed from the message (RFC 6891 6.1.2, 6.1.3).
+/// What a message's OPT record means, if it has one, the options borrowed from the message (RFC 6891 6.1.2, 6.1.3).
 pub fn opt_ref(message: &Message) -> Option<OptRef<'_>>
-    ensures { option_map opt_seen result ≡ opt_of_message message.now }
+    ensures exact { option_map opt_seen result ≡ opt_of_message message.now }
+    ensures none { IsNone result ↔ HasNoOpt message.now }
 {
     match opt_record(message.additional.as_slice()) {
         Some(record) => Some(opt_ref_of_record(record)),
@@ -61,8 +62,8 @@ pub fn opt_of(alloc: Global, message: &Message) -> Result<Option<Opt>, AllocErro
     }
 }
 
-/// The RCODE of a message, 0 to 4095: the low four bits of `bits` and, above them, the eight bits of the OPT record, if there is one
-/// (RFC 6891 6.1.3).
+/// The RCODE of a message, 0 to 4095: the low four bits of `bits` and, above them, the eight bits of the OPT record,
+/// if there is one (RFC 6891 6.1.3).
 pub fn full_rcode(message: &Message) -> u16
     requires { Valid message.now }
     ensures { result ≡ full_rcode_of message.now }

@@ -9,7 +9,7 @@ use cd_message::{Message, OPT, Rr};
 use cd_name::{Blob, Name};
 use std::alloc::AllocError;
 
-/// The TTL that holds the flags of an OPT record.
+// The TTL that holds the flags of an OPT record.
 fn ttl_of_opt(ext_rcode: u8, version: u8, dnssec_ok: bool) -> u32
     ensures { result ≡ ttl_of_opt ext_rcode version dnssec_ok }
 {
@@ -17,7 +17,7 @@ fn ttl_of_opt(ext_rcode: u8, version: u8, dnssec_ok: bool) -> u32
     u32::from(ext_rcode) * 16777216 + u32::from(version) * 65536 + flags
 }
 
-/// The OPT record with these fields.
+// The OPT record with these fields.
 #[tactic(auto, using(crate::proofs::OptRecords::root_is_name))]
 fn record_of_opt(opt: Opt) -> Result<Rr, AllocError>
     ensures { IfOk result (λ r. r ≡ record_of_opt opt) }
@@ -34,14 +34,15 @@ fn record_of_opt(opt: Opt) -> Result<Rr, AllocError>
     })
 }
 
-/// Adds an OPT record with these fields behind the additional records (RFC 6891 6.1.2, 6.1.3). For want of memory the message stays
-/// as it was. The record is made with the allocator of the options. A valid message stays valid if it has room for one more record and
-/// the options have at most 65,535 bytes.
+/// Adds an OPT record with these fields after the additional records (RFC 6891 6.1.2, 6.1.3). For want of memory the
+/// message stays as it was. The record is made with the allocator of the options. A valid message stays valid if it
+/// has room for one more record and the options have at most 65,535 bytes.
 pub fn put_opt(message: &mut Message, opt: Opt) -> Result<(), AllocError>
     requires { HasNoOpt message.old }
     ensures ok { OnOk result (message.new ≡ with_opt message.old opt) }
     ensures err { OnErr result (message.new ≡ message.old) }
-    ensures valid { Valid message.old → length message.old.additional < 65535 → length opt.rdata ≤ 65535 → Valid message.new }
+    ensures valid { Valid message.old → length message.old.additional < 65535 →
+        length opt.rdata ≤ 65535 → Valid message.new }
 {
     let record = record_of_opt(opt)?;
     match message.additional.push(record) {

@@ -1,4 +1,4 @@
--- What stands behind a reading that gives a value.
+-- What stands after a reading that gives a value.
 use Rattle.std.proofs.Common.{◌≡◌, ℕ, Bool, List, Result, Ok, Err, refl, true, false, cond}
 use Rattle.cd_name.specs.declared.fault.NameWhy.{NameWhy}
 use Rattle.cd_message.specs.declared.message.MsgWhy.{MsgWhy}

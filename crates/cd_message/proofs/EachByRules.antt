@@ -1,4 +1,4 @@
--- Items that the rules read one behind the other are those that one reading behind the other gives.
+-- Items that the rules read one after the other are those that one reading after the other gives.
 use Rattle.std.proofs.Common.{◌≡◌, ℕ, zero, suc, ◌<◌, List, [], ◌∷◌, ◌++◌, length, Result, Ok, Err, ◌⊎◌, inl, inr, refl, subst, sym, ap, append_assoc, arith}
 use Rattle.std.proofs.lemmas.List.{append-nil}
 use Rattle.cd_message.specs.declared.message.MsgWhy.{MsgWhy}
@@ -6,8 +6,8 @@ use Rattle.cd_message.specs.Readings.{repeat}
 use Rattle.cd_message.specs.Rules.{ReadsEach, none, one_more, BreaksAmong}
 use Rattle.cd_message.proofs.Decides.{Decides}
 
--- The rules decide what is read behind some items that keep a rule of their own: one more item, which keeps it too, or a rule that is broken.
--- What has been read gives the place behind it, of which the next reading knows.
+-- The rules decide what is read after some items that keep a rule of their own: one more item, which keeps it too, or a rule that is broken.
+-- What has been read gives the place after it, of which the next reading knows.
 pub record DecidesNext {A P : Type 0} (read_at : P → Result (A × P) MsgWhy) (place : List A → ℕ → P) (Keeps : List A → Type 0) (Reads : ℕ → A → ℕ → Type 0)
     (Broken : MsgWhy → List A → ℕ → Type 0) : Type 0 where
   pub front_keeps : (before more : List A) → Keeps (before ++ more) → Keeps before
@@ -45,9 +45,9 @@ among_is_broken {A} {P} {read_at} {place} {Keeps} {Reads} {Broken} d (none at) w
 among_is_broken d (one_more read at next here item items first others) why zero before left breaks = absurd (omega arith)
 among_is_broken {A} {P} {read_at} {place} {Keeps} {Reads} {Broken} d (one_more read at next here item items first others) why (suc count) before left breaks =
     let group : before ++ (item ∷ items) ≡ (before ++ item ∷ []) ++ items = sym (append_assoc before (item ∷ []) items) in
-    let breaks_behind : Broken why ((before ++ item ∷ []) ++ items) here = subst (λ t. Broken why t here) group breaks in
-    let one = d.read before at item next first (d.front_keeps (before ++ item ∷ []) items (d.broken_keeps why ((before ++ item ∷ []) ++ items) here breaks_behind)) in
-    let more = among_is_broken d others why count (before ++ item ∷ []) (omega arith) breaks_behind in
+    let breaks_after : Broken why ((before ++ item ∷ []) ++ items) here = subst (λ t. Broken why t here) group breaks in
+    let one = d.read before at item next first (d.front_keeps (before ++ item ∷ []) items (d.broken_keeps why ((before ++ item ∷ []) ++ items) here breaks_after)) in
+    let more = among_is_broken d others why count (before ++ item ∷ []) (omega arith) breaks_after in
     rw (one, more) refl
 
 -- one of the two holds
@@ -73,7 +73,7 @@ answer_with_item Keeps Reads Broken count before at item next first (inr a) =
       },
     )
 
--- behind items that keep the rule of their own, the rules have an answer on so many more
+-- after items that keep the rule of their own, the rules have an answer on so many more
 pub each_answer : {A P : Type 0} {read_at : P → Result (A × P) MsgWhy} {place : List A → ℕ → P} {Keeps : List A → Type 0} {Reads : ℕ → A → ℕ → Type 0}
     {Broken : MsgWhy → List A → ℕ → Type 0} (d : DecidesNext read_at place Keeps Reads Broken) (count : ℕ) (before : List A) (at : ℕ) → Keeps before →
     EachAnswer Keeps Reads Broken count before at
@@ -105,7 +105,7 @@ next_by_rules read_at Reads Broken each = record {
   answer = λ before at keeps. elim (each at).answer [ inl a ↦ inl (a.0.0, a.0.1, a.1, tt) | inr a ↦ inr a ];
 }
 
--- the rules that decide each item decide so many, one behind the other
+-- the rules that decide each item decide so many, one after the other
 pub items_by_rules : {A : Type 0} (read_at : ℕ → Result (A × ℕ) MsgWhy) (Reads : ℕ → A → ℕ → Type 0) (Broken : ℕ → MsgWhy → Type 0) →
     ((at : ℕ) → Decides (read_at at) (λ x. Reads at x.0 x.1) (Broken at)) → (count at : ℕ) →
     Decides (repeat read_at count at) (λ x. ReadsEach Reads count at x.0 x.1) (λ why. BreaksAmong Reads (λ before here. Broken here why) count at)

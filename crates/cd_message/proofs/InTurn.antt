@@ -1,4 +1,4 @@
--- Pieces that are written one behind the other.
+-- Pieces that are written one after the other.
 use Rattle.std.proofs.Common.{◌≡◌, ℕ, ◌+◌, ◌<◌, ◌≤◌, List, [], ◌∷◌, ◌++◌, length, take, drop, get_or, Result, Ok, Err, sym, ap, ◌∙◌, arith, append_assoc, length-append, subst}
 use Rattle.std.specs.List.{All}
 use Rattle.std.specs.Result.{IsErr, IsErrAnd}
@@ -12,7 +12,7 @@ use Rattle.cd_message.specs.declared.writing.WriteFault.TheVariants.{TooLong, No
 use Rattle.cd_message.specs.Putting.{Puts}
 use Rattle.cd_message.specs.Written.{bytes_piece, in_turn, each_in_turn}
 
--- two pieces that are written one behind the other are one
+-- two pieces that are written one after the other are one
 writes_in_turn : (a b : Piece) (b0 b1 b2 : List ℕ) (n0 n1 n2 : List Suffix) → Writes a b0 n0 b1 n1 → Writes b b1 n1 b2 n2 → Writes (in_turn a b) b0 n0 b2 n2
 writes_in_turn a b b0 b1 b2 n0 n1 n2 first second =
     let x : Written = a n0 (length b0) in
@@ -24,7 +24,7 @@ writes_in_turn a b b0 b1 b2 n0 n1 n2 first second =
           ∙ ap (λ (w : Written). n0 ++ (x.suffixes ++ w.suffixes)) y_is;
     }
 
--- a call that writes a piece behind another
+-- a call that writes a piece after another
 pub puts_in_turn : (a b : Piece) (s0 s1 s2 : Writing) (r : Result (Unit {0}) WriteFault) → Puts a s0 s1 (Ok tt) → Puts b s1 s2 r → Puts (in_turn a b) s0 s2 r
 puts_in_turn a b s0 s1 s2 (Ok _) first second = (writes_in_turn a b s0.bytes s1.bytes s2.bytes s0.names s1.names s2.names first.0 second.0, second.1)
 puts_in_turn a b s0 s1 s2 (Err TooLong) first second =
@@ -60,7 +60,7 @@ puts_as piece x y s0 s1 r same puts = subst (λ z. Puts (piece z) s0 s1 r) same 
 abbrev pub WritesRest : Piece → Piece → Writing → Writing → Type 0
 WritesRest all rest start here = (end : Writing) (r : Result (Unit {0}) WriteFault) → Puts rest here end r → Puts all start end r
 
--- behind the first of two pieces the second is the rest
+-- after the first of two pieces the second is the rest
 pub rest_in_turn : (all a b : Piece) (start here next : Writing) → WritesRest all (in_turn a b) start here → Puts a here next (Ok tt) → WritesRest all b start next
 rest_in_turn all a b start here next rest first = λ end r second. rest end r (puts_in_turn a b here next end r first second)
 
@@ -91,7 +91,7 @@ rest_fails_at_item piece items i item start here next e r there is rest fails ha
     rest_hands_on (each_in_turn piece items) (piece item) (each_in_turn piece (drop (i + 1) items)) start here next e r
     (subst (λ p. WritesRest (each_in_turn piece items) p start here) (each_from piece items i item there is) rest) fails handed
 
--- behind the last item all are written
+-- after the last item all are written
 pub rest_is_none : {A : Type 0} (piece : A → Piece) (items : List A) (i : ℕ) (start here : Writing) → length items ≤ i → length here.bytes ≤ 65535 →
     WritesRest (each_in_turn piece items) (each_in_turn piece (drop i items)) start here → Puts (each_in_turn piece items) start here (Ok tt)
 unfolding each_in_turn

@@ -1,4 +1,4 @@
--- A piece that is written behind its length.
+-- A piece that is written after its length.
 use Rattle.std.proofs.Common.{◌≡◌, ℕ, ◌+◌, ◌-◌, ◌≤◌, List, [], ◌∷◌, ◌++◌, length, Ok, refl, ap, ◌∙◌, arith, length-append}
 use Rattle.std.specs.Prelude.{slice_set, slice_index}
 use Rattle.std.specs.Int.{w16, to_be_bytes}
@@ -9,17 +9,17 @@ use Rattle.cd_message.specs.declared.writing.Writing.{Writing}
 use Rattle.cd_message.specs.Putting.{Puts}
 use Rattle.cd_message.specs.Written.{bytes_piece, in_turn, with_length}
 
--- two items behind a front are set
-set_two : (front : List ℕ) (a b high low : ℕ) (behind : List ℕ) →
-    slice_set (slice_set (front ++ a ∷ b ∷ behind) (length front) high) (length front + 1) low ≡ front ++ high ∷ low ∷ behind
-set_two front a b high low behind =
-    let first : slice_set (front ++ a ∷ b ∷ behind) (length front) high ≡ front ++ high ∷ b ∷ behind = set-append_seam front a (b ∷ behind) high in
-    let second : slice_set (front ++ high ∷ b ∷ behind) (length front + 1) low ≡ front ++ slice_set (high ∷ b ∷ behind) (length front + 1 - length front) low =
-    set-append_right front (high ∷ b ∷ behind) (length front) (length front + 1) low refl (omega arith) in
+-- two items after a front are set
+set_two : (front : List ℕ) (a b high low : ℕ) (after : List ℕ) →
+    slice_set (slice_set (front ++ a ∷ b ∷ after) (length front) high) (length front + 1) low ≡ front ++ high ∷ low ∷ after
+set_two front a b high low after =
+    let first : slice_set (front ++ a ∷ b ∷ after) (length front) high ≡ front ++ high ∷ b ∷ after = set-append_seam front a (b ∷ after) high in
+    let second : slice_set (front ++ high ∷ b ∷ after) (length front + 1) low ≡ front ++ slice_set (high ∷ b ∷ after) (length front + 1 - length front) low =
+    set-append_right front (high ∷ b ∷ after) (length front) (length front + 1) low refl (omega arith) in
     let place : length front + 1 - length front ≡ 1 = omega arith in
-    ap (λ t. slice_set t (length front + 1) low) first ∙ second ∙ ap (λ k. front ++ slice_set (high ∷ b ∷ behind) k low) place
+    ap (λ t. slice_set t (length front + 1) low) first ∙ second ∙ ap (λ k. front ++ slice_set (high ∷ b ∷ after) k low) place
 
--- Behind room for a length a piece is written, and then its length into the room.
+-- After room for a length a piece is written, and then its length into the room.
 pub length_written : (piece : Piece) (old now : Writing) (at size : ℕ) (digits first new : List ℕ) → Puts (in_turn (bytes_piece (0 ∷ 0 ∷ [])) piece) old now (Ok tt) →
     at ≡ length old.bytes → size ≡ length now.bytes - at - 2 → digits ≡ to_be_bytes w16 size →
     first ≡ slice_set now.bytes at (slice_index digits 0) → new ≡ slice_set first (at + 1) (slice_index digits 1) →

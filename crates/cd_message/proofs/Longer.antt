@@ -1,4 +1,4 @@
--- What is read stays where more bytes stand behind the payload.
+-- What is read stays where more bytes stand after the payload.
 use Rattle.std.proofs.Common.{◌≡◌, ℕ, ◌+◌, ◌-◌, ◌≤◌, List, ◌++◌, length, take, drop, ap, ◌∙◌, sym, arith, length-append}
 use Rattle.std.proofs.lemmas.List.{take-append-le, drop-append-le, length-drop}
 use Rattle.cd_name.proofs.Longer.{names_stay}
@@ -44,7 +44,7 @@ rdata_stays more order there (empty same is) = empty same is
 rdata_stays {p} more {rtype} {at} {end} order there (any_bytes apart no_shape is) = any_bytes apart no_shape (is ∙ sym (bytes_stay p more at (end - at) (omega arith)))
 rdata_stays {p} more {rtype} {at} {end} {rdata} order there (shaped s names next apart has_shape room reads fills is) =
     let front : bytes_at (p ++ more) at s.before ≡ bytes_at p at s.before = bytes_stay p more at s.before (omega arith) in
-    let back : bytes_at (p ++ more) next s.behind ≡ bytes_at p next s.behind = bytes_stay p more next s.behind (omega arith) in
+    let back : bytes_at (p ++ more) next s.after ≡ bytes_at p next s.after = bytes_stay p more next s.after (omega arith) in
     shaped s names next apart has_shape room (each_stays (rdata_name_stays p more end) reads) fills (rw (front, back) is)
 
 -- a record stays
@@ -69,7 +69,7 @@ section_stays : (p more : List ℕ) (opts count again at : ℕ) (records : List 
 section_stays p more opts count again at records end same reads =
     record { are_read = rw same (each_stays (record_stays p more) reads.are_read); opt_rule = reads.opt_rule }
 
--- a message that the rules read they read with more bytes behind
+-- a message that the rules read they read with more bytes after
 stays : (p more : List ℕ) (m : Message) (used : ℕ) → ReadsMessage p m used → ReadsMessage (p ++ more) m used
 stays p more m used reads =
     record {
@@ -85,6 +85,6 @@ stays p more m used reads =
       has_additional = section_stays p more 1 _ _ reads.authority_end m.additional used (be16-append 10 p more (omega (arith, reads.header))) reads.has_additional;
     }
 
--- the law on messages with more bytes behind them
+-- the law on messages with more bytes after them
 pub messages_stay : MessagesStay
 messages_stay p more m used h = (spelled_by_rules (p ++ more) m used).1 (stays p more m used ((spelled_by_rules p m used).0 h))

@@ -69,9 +69,9 @@ message_is_broken p why (in_additional qs answers authority first second at head
 abbrev MessageAnswer : List ℕ → Type 0
 MessageAnswer p = ((x : Message × ℕ) × ReadsMessage p x.0 x.1) ⊎ ((why : MsgWhy) × BreaksMessage p why)
 
--- the rules have an answer behind the questions
-behind_questions_answer : (p : List ℕ) (qs : List Question) (first : ℕ) → 12 ≤ length p → ReadsEach (ReadsQuestion p) (be16 4 p) 12 qs first → MessageAnswer p
-behind_questions_answer p qs first header asked =
+-- the rules have an answer after the questions
+after_questions_answer : (p : List ℕ) (qs : List Question) (first : ℕ) → 12 ≤ length p → ReadsEach (ReadsQuestion p) (be16 4 p) 12 qs first → MessageAnswer p
+after_questions_answer p qs first header asked =
     elim (without_opt p (be16 6 p) first).answer [
       | inr a ↦ inr (a.0, in_answers qs first header asked a.1)
       | inl answers ↦
@@ -108,7 +108,7 @@ message_answer p =
       | inr header ↦
           elim (questions_by_rules p (be16 4 p) 12).answer [
             | inr a ↦ inr (a.0, in_questions header a.1)
-            | inl a ↦ behind_questions_answer p a.0.0 a.0.1 header a.1
+            | inl a ↦ after_questions_answer p a.0.0 a.0.1 header a.1
           ]
     ]
 

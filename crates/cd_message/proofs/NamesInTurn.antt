@@ -1,4 +1,4 @@
--- Names without pointers that are written one behind the other.
+-- Names without pointers that are written one after the other.
 use Rattle.std.proofs.Common.{◌≡◌, ℕ, zero, suc, ◌<◌, ◌≤◌, List, [], ◌∷◌, length, take, drop, Some, None, Result, Ok, Err, refl, ap, sym, subst, ◌∙◌, arith, length-append}
 use Rattle.std.specs.List.{All, concat}
 use Rattle.std.proofs.lemmas.Bool.{false≢true}
@@ -32,14 +32,14 @@ first_size name others bytes are spell =
     (name_sizes_are_exact bytes (length name)).1
     (omega (arith, ap length spell, length-append name (concat others)), subst IsName (sym front) (All-head IsName name others are))
 
--- a name is the first of some names, and the bytes behind it are those of the others
+-- a name is the first of some names, and the bytes after it are those of the others
 abbrev FirstHas : List (List ℕ) → List ℕ → List ℕ → Type 0
-FirstHas names name behind = (others : List (List ℕ)) × (names ≡ name ∷ others) × (behind ≡ concat others)
+FirstHas names name after = (others : List (List ℕ)) × (names ≡ name ∷ others) × (after ≡ concat others)
 
 -- the first of some names is the one at the front of their bytes
-first_has : (names : List (List ℕ)) (bytes : List ℕ) (size : ℕ) (name behind : List ℕ) → All IsName names → bytes ≡ concat names → name_size bytes ≡ Some size → name ≡ take size bytes → behind ≡ drop size bytes → FirstHas names name behind
-first_has [] bytes size name behind are spell is front back = let none : name_size bytes ≡ None = ap name_size spell ∙ no_name in cc
-first_has (first ∷ others) bytes size name behind are spell is front back =
+first_has : (names : List (List ℕ)) (bytes : List ℕ) (size : ℕ) (name after : List ℕ) → All IsName names → bytes ≡ concat names → name_size bytes ≡ Some size → name ≡ take size bytes → after ≡ drop size bytes → FirstHas names name after
+first_has [] bytes size name after are spell is front back = let none : name_size bytes ≡ None = ap name_size spell ∙ no_name in cc
+first_has (first ∷ others) bytes size name after are spell is front back =
     let known = first_size first others bytes are spell in
     let all : size ≡ length first = cc in (
       others,
@@ -55,11 +55,11 @@ pub record NamesLeft (names : List (List ℕ)) (rest : List ℕ) (old now : Writ
   pub goes_on : (new : Writing) (r : Result (Unit {0}) WriteFault) → Puts (each_in_turn name_piece left) now new r → Puts (each_in_turn name_piece names) old new r
 
 -- a name is written
-pub name_written : (names : List (List ℕ)) (rest : List ℕ) (size : ℕ) (name behind : List ℕ) (old now next : Writing) → name_size rest ≡ Some size → name ≡ take size rest → behind ≡ drop size rest →
-    Puts (name_piece name) now next (Ok tt) → NamesLeft names rest old now → NamesLeft names behind old next
+pub name_written : (names : List (List ℕ)) (rest : List ℕ) (size : ℕ) (name after : List ℕ) (old now next : Writing) → name_size rest ≡ Some size → name ≡ take size rest → after ≡ drop size rest →
+    Puts (name_piece name) now next (Ok tt) → NamesLeft names rest old now → NamesLeft names after old next
 unfolding each_in_turn
-name_written names rest size name behind old now next is front back puts before =
-    let first = first_has before.left rest size name behind before.are_names before.spell is front back in
+name_written names rest size name after old now next is front back puts before =
+    let first = first_has before.left rest size name after before.are_names before.spell is front back in
     let joined = puts_in_turn (name_piece name) (each_in_turn name_piece first.0) now next in
     record {
       left = first.0;

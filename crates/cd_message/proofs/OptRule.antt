@@ -8,7 +8,7 @@ use Rattle.std.proofs.Math.Seq.{drop-append_seam, take-append_seam}
 use Rattle.cd_name.specs.Names.{IsName}
 use Rattle.cd_message.specs.declared.message.Rr.{Rr}
 use Rattle.cd_message.specs.declared.message.TheConstants.{OPT}
-use Rattle.cd_message.specs.Messages.{breaks_opt_rule, opt_allowed_behind}
+use Rattle.cd_message.specs.Messages.{breaks_opt_rule, opt_allowed_after}
 use Rattle.cd_message.specs.Rules.{KeepsOptRule, BreaksOptRule}
 use Rattle.cd_message.specs.Valid.{is_opt}
 use Rattle.cd_message.proofs.Valid.{one_byte_is_root, opts_of}
@@ -17,9 +17,9 @@ use Rattle.cd_message.proofs.Valid.{one_byte_is_root, opts_of}
 abbrev OfRoot : Rr → Type 0
 OfRoot r = r.rtype ≡ OPT → r.owner ≡ 0 ∷ []
 
--- whether an OPT record is allowed behind some records of a section that may hold so many
-abbrev pub opt_allowed_after : ℕ → List Rr → Bool
-opt_allowed_after opts before = nat_lt (count_by is_opt before) opts
+-- whether an OPT record is allowed after some records of a section that may hold so many
+abbrev pub opt_still_allowed : ℕ → List Rr → Bool
+opt_still_allowed opts before = nat_lt (count_by is_opt before) opts
 
 -- OPT records, with one record more
 count_more : (before : List Rr) (r : Rr) → count_by is_opt (before ++ r ∷ []) ≡ count_by is_opt before + opts_of r
@@ -44,7 +44,7 @@ counts_one r is = rw is refl
 counts_none : (r : Rr) → is_opt r ≡ false → opts_of r ≡ 0
 counts_none r is = rw is refl
 
--- behind few OPT records, one more record that does not break the rule leaves them few
+-- after few OPT records, one more record that does not break the rule leaves them few
 few_more : (opts : ℕ) (before : List Rr) (r : Rr) → count_by is_opt before ≤ opts → (BreaksOptRule opts before r.rtype r.owner → ⊥) →
     count_by is_opt (before ++ r ∷ []) ≤ opts
 few_more opts before r few kept =
@@ -67,7 +67,7 @@ root_or_not (n ∷ m ∷ bytes) = inr (λ e. cc)
 root_more : (opts : ℕ) (before : List Rr) (r : Rr) → (BreaksOptRule opts before r.rtype r.owner → ⊥) → OfRoot r
 root_more opts before r kept opt = elim (root_or_not r.owner) [ inl root ↦ root | inr odd ↦ absurd (kept (opt, inr odd)) ]
 
--- behind records that keep the rule a record that does not break it keeps it
+-- after records that keep the rule a record that does not break it keeps it
 pub keeps_more : (opts : ℕ) (before : List Rr) (r : Rr) → KeepsOptRule opts before → (BreaksOptRule opts before r.rtype r.owner → ⊥) → KeepsOptRule opts (before ++ r ∷ [])
 keeps_more opts before r k kept = record {
   few = few_more opts before r k.few kept;
@@ -83,8 +83,8 @@ keeps_last opts before r k (opt, inr odd) =
 -- the test holds and the rule is broken, or neither
 abbrev TestOfRule : ℕ → List Rr → ℕ → List ℕ → Type 0
 TestOfRule opts before rtype owner =
-    ((breaks_opt_rule (opt_allowed_after opts before) rtype owner ≡ true) × BreaksOptRule opts before rtype owner)
-    ⊎ ((breaks_opt_rule (opt_allowed_after opts before) rtype owner ≡ false) × (BreaksOptRule opts before rtype owner → ⊥))
+    ((breaks_opt_rule (opt_still_allowed opts before) rtype owner ≡ true) × BreaksOptRule opts before rtype owner)
+    ⊎ ((breaks_opt_rule (opt_still_allowed opts before) rtype owner ≡ false) × (BreaksOptRule opts before rtype owner → ⊥))
 
 -- the test tells whether the rule is broken
 pub test_of_rule : (opts : ℕ) (before : List Rr) (rtype : ℕ) (owner : List ℕ) → IsName owner → TestOfRule opts before rtype owner
@@ -109,27 +109,27 @@ test_of_rule opts before rtype owner is =
 
 -- where the rule is not broken the test does not hold
 pub test_of_kept : (opts : ℕ) (before : List Rr) (rtype : ℕ) (owner : List ℕ) → TestOfRule opts before rtype owner → (BreaksOptRule opts before rtype owner → ⊥) →
-    breaks_opt_rule (opt_allowed_after opts before) rtype owner ≡ false
+    breaks_opt_rule (opt_still_allowed opts before) rtype owner ≡ false
 test_of_kept opts before rtype owner (inl test) kept = absurd (kept test.1)
 test_of_kept opts before rtype owner (inr test) kept = test.0
 
 -- where the rule is broken the test holds
 pub test_of_broken : (opts : ℕ) (before : List Rr) (rtype : ℕ) (owner : List ℕ) → TestOfRule opts before rtype owner → BreaksOptRule opts before rtype owner →
-    breaks_opt_rule (opt_allowed_after opts before) rtype owner ≡ true
+    breaks_opt_rule (opt_still_allowed opts before) rtype owner ≡ true
 test_of_broken opts before rtype owner (inl test) breaks = test.0
 test_of_broken opts before rtype owner (inr test) breaks = absurd (test.1 breaks)
 
--- a test that holds no more behind one record, and stays as it was behind another
-test_behind : (allowed is next : Bool) → (is ≡ true → next ≡ false) → (is ≡ false → next ≡ allowed) → (allowed && not is) ≡ next
-test_behind true true next never stays = sym (never refl)
-test_behind true false next never stays = sym (stays refl)
-test_behind false true next never stays = sym (never refl)
-test_behind false false next never stays = sym (stays refl)
+-- a test that holds no more after one record, and stays as it was after another
+test_after : (allowed is next : Bool) → (is ≡ true → next ≡ false) → (is ≡ false → next ≡ allowed) → (allowed && not is) ≡ next
+test_after true true next never stays = sym (never refl)
+test_after true false next never stays = sym (stays refl)
+test_after false true next never stays = sym (never refl)
+test_after false false next never stays = sym (stays refl)
 
--- In a section that may hold one OPT record at most, one is allowed behind a record where it was allowed before and the record is none.
+-- In a section that may hold one OPT record at most, one is allowed after a record where it was allowed before and the record is none.
 pub opt_allowed_next : (opts : ℕ) → opts ≤ 1 → (before : List Rr) (r : Rr) →
-    opt_allowed_behind (opt_allowed_after opts before) r ≡ opt_allowed_after opts (before ++ r ∷ [])
+    opt_allowed_after (opt_still_allowed opts before) r ≡ opt_still_allowed opts (before ++ r ∷ [])
 opt_allowed_next opts one before r =
-    test_behind (opt_allowed_after opts before) (is_opt r) (opt_allowed_after opts (before ++ r ∷ []))
+    test_after (opt_still_allowed opts before) (is_opt r) (opt_still_allowed opts (before ++ r ∷ []))
     (λ is. le-ltb (count_by is_opt (before ++ r ∷ [])) opts (omega (arith, count_more before r, counts_one r is)))
     (λ is. (let same : count_by is_opt (before ++ r ∷ []) ≡ count_by is_opt before = omega (arith, count_more before r, counts_none r is) in ap (λ k. nat_lt k opts) same))

@@ -1,4 +1,4 @@
--- Pieces that are written one behind the other are read one behind the other.
+-- Pieces that are written one after the other are read one after the other.
 use Rattle.std.proofs.Common.{◌≡◌, ℕ, zero, ◌+◌, ◌<◌, ◌≤◌, ◌^◌, List, [], ◌∷◌, ◌++◌, length, take, drop, refl, ap, sym, ◌∙◌, subst, arith, append_assoc, length-append, add-zero}
 use Rattle.std.specs.List.{All}
 use Rattle.std.specs.Int.{w16, to_be_bytes}
@@ -14,29 +14,29 @@ use Rattle.cd_message.specs.Rules.{ReadsEach, none, one_more}
 use Rattle.cd_message.specs.Written.{bytes_piece, in_turn, each_in_turn, with_length}
 use Rattle.cd_message.proofs.Fields.{BytesAt, first_word_there, word_of_number}
 
--- What is written behind some bytes is read there, whatever stands behind it, and the suffixes that stand are read.
+-- What is written after some bytes is read there, whatever stands after it, and the suffixes that stand are read.
 pub record WrittenIsRead (Reads : List ℕ → ℕ → ℕ → Type 0) (bytes : List ℕ) (standing : List Suffix) (w : Written) : Type 0 where
   pub reads : (more : List ℕ) → Reads (bytes ++ w.bytes ++ more) (length bytes) (length bytes + length w.bytes)
   pub suffixes : SuffixesAreRead (bytes ++ w.bytes) (standing ++ w.suffixes)
 
--- A piece of at most 65,535 bytes is read behind any bytes in which the suffixes that stand are read.
+-- A piece of at most 65,535 bytes is read after any bytes in which the suffixes that stand are read.
 pub record IsRead (Reads : List ℕ → ℕ → ℕ → Type 0) (piece : Piece) : Type 0 where
-  pub behind : (bytes : List ℕ) (standing : List Suffix) → SuffixesAreRead bytes standing → length (piece standing (length bytes)).bytes ≤ 65535 →
+  pub after : (bytes : List ℕ) (standing : List Suffix) → SuffixesAreRead bytes standing → length (piece standing (length bytes)).bytes ≤ 65535 →
       WrittenIsRead Reads bytes standing (piece standing (length bytes))
 
 -- a piece is read as an item
 abbrev pub IsReadAs : {A : Type 0} → (List ℕ → ℕ → A → ℕ → Type 0) → A → Piece → Type 0
 IsReadAs Reads x piece = IsRead (λ p at next. Reads p at x next) piece
 
--- one reading and then another behind it
+-- one reading and then another after it
 abbrev pub ReadsInTurn : (List ℕ → ℕ → ℕ → Type 0) → (List ℕ → ℕ → ℕ → Type 0) → List ℕ → ℕ → ℕ → Type 0
 ReadsInTurn First Second p at next = (middle : ℕ) × First p at middle × Second p middle next
 
--- items one behind the other
+-- items one after the other
 abbrev pub ReadsItems : {A : Type 0} → (List ℕ → ℕ → A → ℕ → Type 0) → List A → List ℕ → ℕ → ℕ → Type 0
 ReadsItems Reads items p at next = ReadsEach (Reads p) (length items) at items next
 
--- suffixes that are read are read with more bytes behind
+-- suffixes that are read are read with more bytes after
 suffixes_stay : (bytes more : List ℕ) (standing : List Suffix) → SuffixesAreRead bytes standing → SuffixesAreRead (bytes ++ more) standing
 suffixes_stay bytes more standing are =
     All-weaker (λ s. (s.offset < 16384) × ((next : ℕ) × NameAt bytes s.offset s.name next)) (λ s. (s.offset < 16384) × ((next : ℕ) × NameAt (bytes ++ more) s.offset s.name next))
@@ -46,9 +46,9 @@ suffixes_stay bytes more standing are =
 pub read_otherwise : {Reads Others : List ℕ → ℕ → ℕ → Type 0} {piece : Piece} → ((p : List ℕ) (at next : ℕ) → next ≤ length p → Reads p at next → Others p at next) →
     IsRead Reads piece → IsRead Others piece
 read_otherwise {Reads} {Others} {piece} follows is = record {
-  behind = λ bytes standing are size.
+  after = λ bytes standing are size.
       (let w : Written = piece standing (length bytes) in
-      let one = is.behind bytes standing are size in
+      let one = is.after bytes standing are size in
       record {
         reads = λ more. follows (bytes ++ w.bytes ++ more) (length bytes) (length bytes + length w.bytes)
             (omega (arith, length-append (bytes ++ w.bytes) more, length-append bytes w.bytes)) (one.reads more);
@@ -60,15 +60,15 @@ read_otherwise {Reads} {Others} {piece} follows is = record {
 pub same_piece_is_read : {Reads : List ℕ → ℕ → ℕ → Type 0} {piece other : Piece} → ((standing : List Suffix) (at : ℕ) → piece standing at ≡ other standing at) →
     IsRead Reads piece → IsRead Reads other
 same_piece_is_read {Reads} {piece} {other} same is = record {
-  behind = λ bytes standing are size.
+  after = λ bytes standing are size.
       (let e = same standing (length bytes) in
-      subst (λ w. WrittenIsRead Reads bytes standing w) e (is.behind bytes standing are (subst (λ w. length w.bytes ≤ 65535) (sym e) size)));
+      subst (λ w. WrittenIsRead Reads bytes standing w) e (is.after bytes standing are (subst (λ w. length w.bytes ≤ 65535) (sym e) size)));
 }
 
 -- some bytes are read as themselves
 pub bytes_are_read : (b : List ℕ) → IsRead (BytesAt b) (bytes_piece b)
 bytes_are_read b = record {
-  behind = λ bytes standing are size. record {
+  after = λ bytes standing are size. record {
     reads = λ more.
         (let back : drop (length bytes) ((bytes ++ b) ++ more) ≡ b ++ more = ap (λ t. drop (length bytes) t) (append_assoc bytes b more) ∙ drop-append_seam bytes (b ++ more) in
         (ap (λ t. take (length b) t) back ∙ take-append_seam b more, refl));
@@ -79,7 +79,7 @@ bytes_are_read b = record {
 -- a name is read as itself
 pub name_is_read : (name : List ℕ) → IsName name → IsReadAs NameAt name (name_piece name)
 name_is_read name is = record {
-  behind = λ bytes standing are size.
+  after = λ bytes standing are size.
       (let w : Written = name_piece name standing (length bytes) in
       let read = written_names_are_read bytes standing name (bytes ++ w.bytes) (standing ++ w.suffixes) are is (record { bytes = refl; suffixes = refl }) in
       let own : NameAt (bytes ++ w.bytes) (length bytes) name (length bytes + length w.bytes) =
@@ -87,11 +87,11 @@ name_is_read name is = record {
       record { reads = λ more. names_stay (bytes ++ w.bytes) more (length bytes) name (length bytes + length w.bytes) own; suffixes = read.1 });
 }
 
--- two pieces are read one behind the other
+-- two pieces are read one after the other
 pub in_turn_are_read : {First Second : List ℕ → ℕ → ℕ → Type 0} {first second : Piece} → IsRead First first → IsRead Second second →
     IsRead (ReadsInTurn First Second) (in_turn first second)
 in_turn_are_read {First} {Second} {first} {second} is_first is_second = record {
-  behind = λ bytes standing are size.
+  after = λ bytes standing are size.
       (let a : Written = first standing (length bytes) in
       let here : List ℕ = bytes ++ a.bytes in
       let all : List Suffix = standing ++ a.suffixes in
@@ -99,10 +99,10 @@ in_turn_are_read {First} {Second} {first} {second} is_first is_second = record {
       let place : length here ≡ length bytes + length a.bytes = length-append bytes a.bytes in
       let sizes : length (a.bytes ++ b.bytes) ≡ length a.bytes + length b.bytes = length-append a.bytes b.bytes in
       let small : length b.bytes ≤ 65535 = omega arith in
-      let one = is_first.behind bytes standing are (omega arith) in
+      let one = is_first.after bytes standing are (omega arith) in
       let two : WrittenIsRead Second here all b =
       subst (λ k. WrittenIsRead Second here all (second all k)) place
-      (is_second.behind here all one.suffixes (subst (λ k. length (second all k).bytes ≤ 65535) (sym place) small)) in
+      (is_second.after here all one.suffixes (subst (λ k. length (second all k).bytes ≤ 65535) (sym place) small)) in
       let group : here ++ b.bytes ≡ bytes ++ (a.bytes ++ b.bytes) = append_assoc bytes a.bytes b.bytes in
       record {
         reads = λ more.
@@ -120,7 +120,7 @@ in_turn_are_read {First} {Second} {first} {second} is_first is_second = record {
       });
 }
 
--- pieces of items are read as the items, one behind the other
+-- pieces of items are read as the items, one after the other
 pub each_in_turn_is_read : {A : Type 0} (Reads : List ℕ → ℕ → A → ℕ → Type 0) (piece : A → Piece) (items : List A) → All (λ x. IsReadAs Reads x (piece x)) items →
     IsRead (ReadsItems Reads items) (each_in_turn piece items)
 unfolding each_in_turn
@@ -130,14 +130,14 @@ each_in_turn_is_read {A} Reads piece (x ∷ xs) are =
     read_otherwise (λ p at next within both. one_more (length xs) at both.0 next x xs both.1 both.2)
     (in_turn_are_read (All-head P x xs are) (each_in_turn_is_read Reads piece xs (All-tail P x xs are)))
 
--- two bytes tell where a reading ends that begins behind them
+-- two bytes tell where a reading ends that begins after them
 abbrev pub ReadsWithLength : (List ℕ → ℕ → ℕ → Type 0) → List ℕ → ℕ → ℕ → Type 0
 ReadsWithLength Reads p at next = (next ≡ at + 2 + be16 at p) × Reads p (at + 2) next
 
--- a piece with its length before it is read behind that
+-- a piece with its length before it is read after that
 pub with_length_is_read : {Reads : List ℕ → ℕ → ℕ → Type 0} {piece : Piece} → IsRead Reads piece → IsRead (ReadsWithLength Reads) (with_length piece)
 with_length_is_read {Reads} {piece} is = record {
-  behind = λ bytes standing are size.
+  after = λ bytes standing are size.
       (let w : Written = piece standing (length bytes + 2) in
       let head : List ℕ = to_be_bytes w16 (length w.bytes) in
       let small : length w.bytes < 2 ^ 16 = omega arith in
@@ -145,7 +145,7 @@ with_length_is_read {Reads} {piece} is = record {
       ap (λ s. record { bytes = head ++ (piece s (length bytes + 2)).bytes; suffixes = (piece s (length bytes + 2)).suffixes }) (append-nil standing) in
       let parts : WrittenIsRead (ReadsInTurn (BytesAt head) Reads) bytes standing (with_length piece standing (length bytes)) =
       subst (λ v. WrittenIsRead (ReadsInTurn (BytesAt head) Reads) bytes standing v) same
-      ((in_turn_are_read (bytes_are_read head) is).behind bytes standing are (subst (λ v. length v.bytes ≤ 65535) (sym same) size)) in
+      ((in_turn_are_read (bytes_are_read head) is).after bytes standing are (subst (λ v. length v.bytes ≤ 65535) (sym same) size)) in
       record {
         reads = λ more.
             (let both = parts.reads more in

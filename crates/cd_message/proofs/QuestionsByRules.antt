@@ -10,7 +10,7 @@ use Rattle.cd_message.specs.Rules.{ReadsQuestion, BreaksQuestion, question_name,
 use Rattle.cd_message.proofs.Decides.{Decides}
 use Rattle.cd_message.proofs.NamesByRules.{name_or_rule, name_is_read, name_is_broken}
 
--- a question with the same parts, and the same offset behind it
+-- a question with the same parts, and the same offset after it
 same_question : (x : Question × ℕ) (rtype rclass next : ℕ) → rtype ≡ x.0.rtype → rclass ≡ x.0.rclass → next ≡ x.1 →
     (record { name = x.0.name; rtype = rtype; rclass = rclass }, next) ≡ x
 same_question x rtype rclass next h k m = rw (h, k, m) refl

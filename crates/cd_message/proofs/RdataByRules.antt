@@ -8,7 +8,7 @@ use Rattle.cd_message.specs.declared.shape.Shape as kind
 use Rattle.cd_message.specs.Readings.{repeat}
 use Rattle.cd_message.specs.Messages.{bytes_at, rdata_name, rdata_names, rdata_of_shape, rdata_at}
 use Rattle.cd_message.specs.Shapes.{shape_of}
-use Rattle.cd_message.specs.Rules.{ReadsEach, BreaksAmong, RdataNameAt, BreaksRdataName, ReadsRdata, empty, any_bytes, shaped, BreaksRdata, before_names, among_names, behind_names}
+use Rattle.cd_message.specs.Rules.{ReadsEach, BreaksAmong, RdataNameAt, BreaksRdataName, ReadsRdata, empty, any_bytes, shaped, BreaksRdata, before_names, among_names, after_names}
 use Rattle.cd_message.proofs.Decides.{Decides}
 use Rattle.cd_message.proofs.EachByRules.{items_by_rules}
 use Rattle.cd_message.proofs.RdataNames.{rdata_name_by_rules}
@@ -27,7 +27,7 @@ rdata_is_read p rtype at end there rdata (empty e is) = rw (eq-eqb at end e) (ap
 rdata_is_read p rtype at end there rdata (any_bytes apart none is) = rw (ne_eqb at end apart, none) (ap Ok (sym is))
 rdata_is_read p rtype at end there rdata (shaped s names next apart some fits each filled is) =
     let read = (names_by_rules p end there s.names (at + s.before)).read (names, next) each in
-    rw (ne_eqb at end apart, some, le-ltb end (at + s.before) fits, read, eq-eqb (next + s.behind) end filled) (ap Ok (sym is))
+    rw (ne_eqb at end apart, some, le-ltb end (at + s.before) fits, read, eq-eqb (next + s.after) end filled) (ap Ok (sym is))
 
 -- a rule that the rules say RDATA breaks is broken
 rdata_is_broken : (p : List ℕ) (rtype at end : ℕ) → end ≤ length p → (why : MsgWhy) → BreaksRdata p rtype at end why → rdata_at rtype p at end ≡ Err why
@@ -37,9 +37,9 @@ rdata_is_broken p rtype at end there why (before_names s apart some cut told) =
 rdata_is_broken p rtype at end there why (among_names s apart some fits breaks) =
     let broken = (names_by_rules p end there s.names (at + s.before)).broken why breaks in
     rw (ne_eqb at end apart, some, le-ltb end (at + s.before) fits, broken) refl
-rdata_is_broken p rtype at end there why (behind_names s names next apart some fits each odd told) =
+rdata_is_broken p rtype at end there why (after_names s names next apart some fits each odd told) =
     let read = (names_by_rules p end there s.names (at + s.before)).read (names, next) each in
-    rw (ne_eqb at end apart, some, le-ltb end (at + s.before) fits, read, ne_eqb (next + s.behind) end odd) (ap Err (sym told))
+    rw (ne_eqb at end apart, some, le-ltb end (at + s.before) fits, read, ne_eqb (next + s.after) end odd) (ap Err (sym told))
 
 -- one of the two holds
 abbrev RdataAnswer : List ℕ → ℕ → ℕ → ℕ → Type 0
@@ -55,10 +55,10 @@ bytes_answer p rtype at end there apart (Some s) some =
           elim (names_by_rules p end there s.names (at + s.before)).answer [
             | inr a ↦ inr (a.0, among_names s apart some fits a.1)
             | inl a ↦
-                elim (cases_eq (a.0.1 + s.behind) end) [
-                  | inr odd ↦ inr (Shape, behind_names s a.0.0 a.0.1 apart some fits a.1 odd refl)
+                elim (cases_eq (a.0.1 + s.after) end) [
+                  | inr odd ↦ inr (Shape, after_names s a.0.0 a.0.1 apart some fits a.1 odd refl)
                   | inl filled ↦
-                      inl (bytes_at p at s.before ++ concat a.0.0 ++ bytes_at p a.0.1 s.behind, shaped s a.0.0 a.0.1 apart some fits a.1 filled refl)
+                      inl (bytes_at p at s.before ++ concat a.0.0 ++ bytes_at p a.0.1 s.after, shaped s a.0.0 a.0.1 apart some fits a.1 filled refl)
                 ]
           ]
     ]

@@ -18,7 +18,7 @@ use Rattle.cd_message.proofs.NamesByRules.{name_or_rule}
 abbrev is_cut : LabelRun → Bool
 is_cut r = is_short_end r.end
 
--- a name's own bytes end behind their beginning, and if they end before an offset, then its first run is not cut there
+-- a name's own bytes end after their beginning, and if they end before an offset, then its first run is not cut there
 record IsWhole (p : List ℕ) (at next end : ℕ) : Type 0 where
   after : at < next
   whole : next ≤ end → end ≤ length p → run_is_cut (take end p) at ≡ false

@@ -48,30 +48,30 @@ rdata_names_are_names p end (suc count) at x h =
     })
 
 -- a name without pointers in RDATA is read as itself
-plain_rdata_name : (front name behind : List ℕ) (end : ℕ) → IsName name → length (front ++ (name ++ behind)) ≡ end →
-    rdata_name (front ++ (name ++ behind)) end (length front) ≡ Ok (name, length front + length name)
+plain_rdata_name : (front name after : List ℕ) (end : ℕ) → IsName name → length (front ++ (name ++ after)) ≡ end →
+    rdata_name (front ++ (name ++ after)) end (length front) ≡ Ok (name, length front + length name)
 unfolding rdata_name name_in
-plain_rdata_name front name behind end is size =
-    let all : take end (front ++ (name ++ behind)) ≡ front ++ (name ++ behind) = take_all end (front ++ (name ++ behind)) (omega arith) in
-    let plain : name_at (front ++ (name ++ behind)) (length front) ≡ Ok (name, length front + length name) =
-    ap (λ t. name_at t (length front)) (sym (append_assoc front name behind)) ∙ plain_names front name behind is in
-    rw (all, plain_not_cut front name behind is) (ap (name_reading why_of) plain)
+plain_rdata_name front name after end is size =
+    let all : take end (front ++ (name ++ after)) ≡ front ++ (name ++ after) = take_all end (front ++ (name ++ after)) (omega arith) in
+    let plain : name_at (front ++ (name ++ after)) (length front) ≡ Ok (name, length front + length name) =
+    ap (λ t. name_at t (length front)) (sym (append_assoc front name after)) ∙ plain_names front name after is in
+    rw (all, plain_not_cut front name after is) (ap (name_reading why_of) plain)
 
 -- names without pointers in RDATA are read as themselves
-plain_rdata_names : (names : List (List ℕ)) → All IsName names → (front behind : List ℕ) (end : ℕ) → length (front ++ (concat names ++ behind)) ≡ end →
-    repeat (rdata_name (front ++ (concat names ++ behind)) end) (length names) (length front) ≡ Ok (names, length front + length (concat names))
+plain_rdata_names : (names : List (List ℕ)) → All IsName names → (front after : List ℕ) (end : ℕ) → length (front ++ (concat names ++ after)) ≡ end →
+    repeat (rdata_name (front ++ (concat names ++ after)) end) (length names) (length front) ≡ Ok (names, length front + length (concat names))
 unfolding repeat
-plain_rdata_names [] are front behind end size = let e : length front ≡ length front + 0 = omega arith in ap (λ k. Ok ([], k)) e
-plain_rdata_names (name ∷ others) are front behind end size =
-    let group : front ++ ((name ++ concat others) ++ behind) ≡ front ++ (name ++ (concat others ++ behind)) = ap (λ t. front ++ t) (append_assoc name (concat others) behind) in
-    let group2 : front ++ (name ++ (concat others ++ behind)) ≡ (front ++ name) ++ (concat others ++ behind) = sym (append_assoc front name (concat others ++ behind)) in
-    let size2 : length (front ++ (name ++ (concat others ++ behind))) ≡ end = ap length (sym group) ∙ size in
-    let first = plain_rdata_name front name (concat others ++ behind) end (All-head IsName name others are) size2 in
+plain_rdata_names [] are front after end size = let e : length front ≡ length front + 0 = omega arith in ap (λ k. Ok ([], k)) e
+plain_rdata_names (name ∷ others) are front after end size =
+    let group : front ++ ((name ++ concat others) ++ after) ≡ front ++ (name ++ (concat others ++ after)) = ap (λ t. front ++ t) (append_assoc name (concat others) after) in
+    let group2 : front ++ (name ++ (concat others ++ after)) ≡ (front ++ name) ++ (concat others ++ after) = sym (append_assoc front name (concat others ++ after)) in
+    let size2 : length (front ++ (name ++ (concat others ++ after))) ≡ end = ap length (sym group) ∙ size in
+    let first = plain_rdata_name front name (concat others ++ after) end (All-head IsName name others are) size2 in
     let place : length front + length name ≡ length (front ++ name) = sym (length-append front name) in
-    let deeper : repeat (rdata_name (front ++ (name ++ (concat others ++ behind))) end) (length others) (length front + length name) ≡ Ok (others, length (front ++ name) + length (concat others)) =
+    let deeper : repeat (rdata_name (front ++ (name ++ (concat others ++ after))) end) (length others) (length front + length name) ≡ Ok (others, length (front ++ name) + length (concat others)) =
     ap (λ t. repeat (rdata_name t end) (length others) (length front + length name)) group2
-    ∙ ap (λ k. repeat (rdata_name ((front ++ name) ++ (concat others ++ behind)) end) (length others) k) place
-    ∙ plain_rdata_names others (All-tail IsName name others are) (front ++ name) behind end (ap length (sym group2) ∙ size2) in
+    ∙ ap (λ k. repeat (rdata_name ((front ++ name) ++ (concat others ++ after)) end) (length others) k) place
+    ∙ plain_rdata_names others (All-tail IsName name others are) (front ++ name) after end (ap length (sym group2) ∙ size2) in
     let last : length (front ++ name) + length (concat others) ≡ length front + length (name ++ concat others) = omega (arith, length-append front name, length-append name (concat others)) in
     ap (λ t. repeat (rdata_name t end) (suc (length others)) (length front)) group ∙ rw (first, deeper) (ap (λ k. Ok (name ∷ others, k)) last)
 
@@ -81,27 +81,27 @@ unfolding rdata_of_shape rdata_names
 filled_shape s all fills =
     let before = fills.before in
     let text : List ℕ = concat fills.names in
-    let behind = fills.behind in
-    let group : all ≡ before ++ (text ++ behind) = fills.is_all ∙ append_assoc before text behind in
-    let size : length all ≡ length before + length text + length behind = ap length fills.is_all ∙ length-append (before ++ text) behind ∙ ap (λ k. k + length behind) (length-append before text) in
+    let after = fills.after in
+    let group : all ≡ before ++ (text ++ after) = fills.is_all ∙ append_assoc before text after in
+    let size : length all ≡ length before + length text + length after = ap length fills.is_all ∙ length-append (before ++ text) after ∙ ap (λ k. k + length after) (length-append before text) in
     let start : 0 + s.before ≡ length before = omega (arith, fills.before_size) in
     let read : repeat (rdata_name all (length all)) s.names (length before) ≡ Ok (fills.names, length before + length text) =
     ap (λ k. repeat (rdata_name all (length all)) k (length before)) (sym fills.names_count)
     ∙ ap (λ t. repeat (rdata_name t (length all)) (length fills.names) (length before)) group
-    ∙ plain_rdata_names fills.names fills.are_names before behind (length all) (ap length (sym group)) in
-    let front : take s.before all ≡ before = ap (λ k. take k all) (sym fills.before_size) ∙ ap (λ t. take (length before) t) group ∙ take-append_seam before (text ++ behind) in
+    ∙ plain_rdata_names fills.names fills.are_names before after (length all) (ap length (sym group)) in
+    let front : take s.before all ≡ before = ap (λ k. take k all) (sym fills.before_size) ∙ ap (λ t. take (length before) t) group ∙ take-append_seam before (text ++ after) in
     let place : length before + length text ≡ length (before ++ text) = sym (length-append before text) in
-    let back : drop (length before + length text) all ≡ behind =
-    ap (λ k. drop k all) place ∙ ap (λ t. drop (length (before ++ text)) t) fills.is_all ∙ drop-append_seam (before ++ text) behind in
-    let filled : length before + length text + s.behind ≡ length all = omega (arith, fills.behind_size) in
+    let back : drop (length before + length text) all ≡ after =
+    ap (λ k. drop k all) place ∙ ap (λ t. drop (length (before ++ text)) t) fills.is_all ∙ drop-append_seam (before ++ text) after in
+    let filled : length before + length text + s.after ≡ length all = omega (arith, fills.after_size) in
     rw (
       le-ltb (length all) (0 + s.before) (omega arith),
       start,
       read,
-      eq-eqb (length before + length text + s.behind) (length all) filled,
+      eq-eqb (length before + length text + s.after) (length all) filled,
       front,
       back,
-      take_all s.behind behind (omega (arith, fills.behind_size)),
+      take_all s.after after (omega (arith, fills.after_size)),
     )
     (ap Ok (sym fills.is_all))
 
@@ -112,20 +112,20 @@ fills_shape s p at end rdata within order h =
     let room = if_err_else (nat_lt end (at + s.before)) Shape _ rdata h in
     let joint = bind_ok (rdata_names p end s.names (at + s.before)) _ rdata room.1 in
     let names = bind_ok (repeat (rdata_name p end) s.names (at + s.before)) _ joint.0 joint.1 in
-    let last = if_ok_else (nat_eq (joint.0.1 + s.behind) end) Shape _ rdata joint.2 in
+    let last = if_ok_else (nat_eq (joint.0.1 + s.after) end) Shape _ rdata joint.2 in
     let are = rdata_names_are_names p end s.names (at + s.before) names.0 names.1 in
     let bytes : concat names.0.0 ≡ joint.0.0 = ap (λ (v : List ℕ × ℕ). v.0) (ok_same (concat names.0.0, names.0.1) joint.0 names.2) in
     let fits : at + s.before ≤ end = ltb-false end (at + s.before) room.0 in
-    let filled : joint.0.1 + s.behind ≡ end = eqb-true (joint.0.1 + s.behind) end last.0 in
+    let filled : joint.0.1 + s.after ≡ end = eqb-true (joint.0.1 + s.after) end last.0 in
     record {
       before = bytes_at p at s.before;
       names = names.0.0;
-      behind = bytes_at p joint.0.1 s.behind;
+      after = bytes_at p joint.0.1 s.after;
       before_size = length-take-le s.before (drop at p) (omega (arith, length-drop at p));
       names_count = are.number;
-      behind_size = length-take-le s.behind (drop joint.0.1 p) (omega (arith, length-drop joint.0.1 p));
+      after_size = length-take-le s.after (drop joint.0.1 p) (omega (arith, length-drop joint.0.1 p));
       are_names = are.each;
-      is_all = sym (ok_same _ rdata last.1) ∙ ap (λ t. bytes_at p at s.before ++ t ++ bytes_at p joint.0.1 s.behind) (sym bytes);
+      is_all = sym (ok_same _ rdata last.1) ∙ ap (λ t. bytes_at p at s.before ++ t ++ bytes_at p joint.0.1 s.after) (sym bytes);
     }
 
 -- empty RDATA keeps any shape

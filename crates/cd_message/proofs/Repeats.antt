@@ -1,4 +1,4 @@
--- One reading behind the other, as a loop makes them.
+-- One reading after the other, as a loop makes them.
 use Rattle.std.proofs.Common.{◌≡◌, ℕ, suc, ◌-◌, ◌+◌, ◌≤◌, ◌<◌, List, [], ◌∷◌, ◌++◌, Result, Ok, Err, refl, sym, ◌∙◌, append_assoc, arith}
 use Rattle.std.proofs.lemmas.List.{append-nil}
 use Rattle.std.specs.List.{concat}
@@ -52,7 +52,7 @@ repeat_fault (fault.Malformed why) read front count i place total lt gives so_fa
     let one : with_front front (repeat read (count - i) place) ≡ Err why = rw (k, gives) refl in
     sym so_far ∙ one
 
--- behind the last reading of a loop
+-- after the last reading of a loop
 pub repeat_end : {A P : Type 0} (read : P → Result (A × P) MsgWhy) (front : List A) (count i : ℕ) (place : P) (total : Result (List A × P) MsgWhy) →
     count ≤ i → with_front front (repeat read (count - i) place) ≡ total → total ≡ Ok (front, place)
 unfolding repeat
@@ -61,7 +61,7 @@ repeat_end read front count i place total le so_far =
     let one : with_front front (repeat read (count - i) place) ≡ Ok (front, place) = rw k (with_front-end front place) in
     sym so_far ∙ one
 
--- a name and the names behind it
+-- a name and the names after it
 abbrev name_then : List ℕ → List (List ℕ) × ℕ → Result (List (List ℕ) × ℕ) MsgWhy
 name_then name others = Ok (name ∷ others.0, others.1)
 
@@ -69,7 +69,7 @@ name_then name others = Ok (name ∷ others.0, others.1)
 abbrev bytes_of : List (List ℕ) × ℕ → Result (List ℕ × ℕ) MsgWhy
 bytes_of names = Ok (concat names.0, names.1)
 
--- bytes before a name and the names behind it
+-- bytes before a name and the names after it
 names_regroup : (front name : List ℕ) (names : Result (List (List ℕ) × ℕ) MsgWhy) →
     with_front front ((names >>= name_then name) >>= bytes_of) ≡ with_front (front ++ name) (names >>= bytes_of)
 names_regroup front name (Ok x) = rw (append_assoc front name (concat x.0)) refl
@@ -100,7 +100,7 @@ names_fault (fault.Malformed why) p end front count i at total lt gives so_far =
     let one : with_front front (rdata_names p end (count - i) at) ≡ Err why = rw (k, gives) refl in
     sym so_far ∙ one
 
--- behind the last name
+-- after the last name
 pub names_end : (p : List ℕ) (end : ℕ) (front : List ℕ) (count i at : ℕ) (total : Result (List ℕ × ℕ) MsgWhy) →
     count ≤ i → with_front front (rdata_names p end (count - i) at) ≡ total → total ≡ Ok (front, at)
 unfolding rdata_names repeat

@@ -6,30 +6,30 @@ use Rattle.cd_message.specs.Messages.{record_step, records_at}
 use Rattle.cd_message.specs.Rules.{ReadsRecord, KeepsOptRule, ReadsSection, BreaksRecord, BreaksSection}
 use Rattle.cd_message.proofs.Decides.{Decides}
 use Rattle.cd_message.proofs.EachByRules.{DecidesNext, each_is_read, among_is_broken, each_answer}
-use Rattle.cd_message.proofs.OptRule.{opt_allowed_after, keeps_none, keeps_front, keeps_more, keeps_last, opt_allowed_next}
+use Rattle.cd_message.proofs.OptRule.{opt_still_allowed, keeps_none, keeps_front, keeps_more, keeps_last, opt_allowed_next}
 use Rattle.cd_message.proofs.RecordsByRules.{record_is_read, record_is_broken, record_answer}
 
--- an offset behind some records, and whether an OPT record is allowed there
+-- an offset after some records, and whether an OPT record is allowed there
 abbrev place_after : ℕ → List Rr → ℕ → ℕ × Bool
-place_after opts before at = (at, opt_allowed_after opts before)
+place_after opts before at = (at, opt_still_allowed opts before)
 
--- behind some records that keep the rule of OPT records, another one breaks a rule
+-- after some records that keep the rule of OPT records, another one breaks a rule
 abbrev BreaksNext : List ℕ → ℕ → MsgWhy → List Rr → ℕ → Type 0
 BreaksNext p opts why before at = KeepsOptRule opts before × BreaksRecord p opts why before at
 
--- a record is read with the place behind it
+-- a record is read with the place after it
 step_is_read : (p : List ℕ) (opts : ℕ) → opts ≤ 1 → (before : List Rr) (at : ℕ) (r : Rr) (next : ℕ) → ReadsRecord p at r next → KeepsOptRule opts (before ++ r ∷ []) →
     record_step p (place_after opts before at) ≡ Ok (r, place_after opts (before ++ r ∷ []) next)
 step_is_read p opts one before at r next reads keeps =
     let read = record_is_read p opts before at (r, next) reads (keeps_last opts before r keeps) in
     rw read (ap (λ b. Ok (r, (next, b))) (opt_allowed_next opts one before r))
 
--- a record that breaks a rule gives no place behind it
+-- a record that breaks a rule gives no place after it
 step_is_broken : (p : List ℕ) (opts : ℕ) (why : MsgWhy) (before : List Rr) (at : ℕ) → BreaksRecord p opts why before at →
     record_step p (place_after opts before at) ≡ Err why
 step_is_broken p opts why before at breaks = let broken = record_is_broken p opts why before at breaks in rw broken refl
 
--- the rules decide each record of a section behind those before it
+-- the rules decide each record of a section after those before it
 next_record_by_rules : (p : List ℕ) (opts : ℕ) → opts ≤ 1 → DecidesNext (record_step p) (place_after opts) (KeepsOptRule opts) (ReadsRecord p) (BreaksNext p opts)
 next_record_by_rules p opts one = record {
   front_keeps = keeps_front opts;
@@ -45,7 +45,7 @@ next_record_by_rules p opts one = record {
 
 -- the rules decide what is read of a section that may hold one OPT record at most
 pub section_by_rules : (p : List ℕ) (opts : ℕ) → opts ≤ 1 → (count at : ℕ) →
-    Decides (records_at p count (opt_allowed_after opts []) at) (λ x. ReadsSection p opts count at x.0 x.1) (λ why. BreaksSection p opts count at why)
+    Decides (records_at p count (opt_still_allowed opts []) at) (λ x. ReadsSection p opts count at x.0 x.1) (λ why. BreaksSection p opts count at why)
 section_by_rules p opts one count at =
     let d = next_record_by_rules p opts one in
     record {

@@ -15,7 +15,7 @@ use Rattle.cd_message.specs.declared.message.TheConstants.{OPT}
 use Rattle.cd_message.specs.declared.shape.Shape as kind
 use Rattle.cd_message.specs.Readings.{repeat}
 use Rattle.cd_bytes.specs.Numbers.{be16}
-use Rattle.cd_message.specs.Messages.{rdata_of_shape, why_of, name_in, question_at, breaks_opt_rule, record_behind_owner, record_at, opt_allowed_behind, record_step, records_at, message_of, rdata_at}
+use Rattle.cd_message.specs.Messages.{rdata_of_shape, why_of, name_in, question_at, breaks_opt_rule, record_after_owner, record_at, opt_allowed_after, record_step, records_at, message_of, rdata_at}
 use Rattle.cd_message.specs.Shapes.{shape_of, shape, holds_name}
 use Rattle.cd_message.specs.Valid.{FillsShape, KeepsShape, is_opt, ValidRecord, ValidSection, Valid}
 use Rattle.cd_message.specs.MessageLaws.{AreBytes, MessagesAreValid}
@@ -35,7 +35,7 @@ word_fits p k bytes = omega (arith, bytes k, bytes (k + 1))
 -- at most 6 bytes, 2 names and 20 bytes
 abbrev pub IsSmall : Option kind.Shape → Type 0
 IsSmall None = Unit {0}
-IsSmall (Some s) = (s.before ≤ 6) × (s.names ≤ 2) × (s.behind ≤ 20)
+IsSmall (Some s) = (s.before ≤ 6) × (s.names ≤ 2) × (s.after ≤ 20)
 
 -- a choice of two small shapes
 choice_is_small : (b : Bool) (x y : Option kind.Shape) → IsSmall x → IsSmall y → IsSmall (cond b x y)
@@ -43,8 +43,8 @@ choice_is_small true x y h k = h
 choice_is_small false x y h k = k
 
 -- a small shape
-shape_is_small : (before names behind : ℕ) (compressed : Bool) → before ≤ 6 → names ≤ 2 → behind ≤ 20 → IsSmall (shape before names behind compressed)
-shape_is_small before names behind compressed h k m = (h, k, m)
+shape_is_small : (before names after : ℕ) (compressed : Bool) → before ≤ 6 → names ≤ 2 → after ≤ 20 → IsSmall (shape before names after compressed)
+shape_is_small before names after compressed h k m = (h, k, m)
 
 -- each shape is small
 pub shapes_are_small : (t : ℕ) → IsSmall (shape_of t)
@@ -72,12 +72,12 @@ filled_is_short s rdata small fills =
     omega (
       arith,
       ap length fills.is_all,
-      length-append (fills.before ++ concat fills.names) fills.behind,
+      length-append (fills.before ++ concat fills.names) fills.after,
       length-append fills.before (concat fills.names),
       length-concat fills.names fills.are_names,
       fills.before_size,
       fills.names_count,
-      fills.behind_size,
+      fills.after_size,
       small.0,
       small.1,
       small.2,
@@ -153,16 +153,16 @@ opts_fall true false owned h = absurd (cc h)
 opts_fall false true owned h = omega arith
 opts_fall false false owned h = omega arith
 
--- a valid record, and the leave for an OPT record behind it
+-- a valid record, and the leave for an OPT record after it
 record FitsPlace (allowed : Bool) (x : Rr × ℕ) : Type 0 where
   valid : ValidRecord x.0
-  opts : opts_of x.0 + opts_from (opt_allowed_behind allowed x.0) ≤ opts_from allowed
+  opts : opts_of x.0 + opts_from (opt_allowed_after allowed x.0) ≤ opts_from allowed
 
--- a record that is read behind its owner fits its place
-behind_owner_fits : (p : List ℕ) (allowed : Bool) (owner : List ℕ) (at : ℕ) (x : Rr × ℕ) → AreBytes p → IsName owner →
-    record_behind_owner p allowed owner at ≡ Ok x → FitsPlace allowed x
-unfolding record_behind_owner
-behind_owner_fits p allowed owner at x bytes is h =
+-- a record that is read after its owner fits its place
+after_owner_fits : (p : List ℕ) (allowed : Bool) (owner : List ℕ) (at : ℕ) (x : Rr × ℕ) → AreBytes p → IsName owner →
+    record_after_owner p allowed owner at ≡ Ok x → FitsPlace allowed x
+unfolding record_after_owner
+after_owner_fits p allowed owner at x bytes is h =
     let one = if_err_else (nat_lt (length p) (at + 10)) Short _ x h in
     let two = if_err_else (breaks_opt_rule allowed (be16 at p) owner) Opt _ x one.1 in
     let three = if_err_else (nat_lt (length p) (at + 10 + be16 (at + 8) p)) Short _ x two.1 in
@@ -184,7 +184,7 @@ record_fits : (p : List ℕ) (allowed : Bool) (at : ℕ) (x : Rr × ℕ) → Are
 unfolding record_at
 record_fits p allowed at x bytes h =
     let one = bind_ok (name_in p at) _ x h in
-    behind_owner_fits p allowed one.0.0 one.0.1 x bytes (named p at one.0 one.1).0 one.2
+    after_owner_fits p allowed one.0.0 one.0.1 x bytes (named p at one.0 one.1).0 one.2
 
 -- so many valid records, with so many OPT records
 record FitsSection (allowed : Bool) (count : ℕ) (records : List Rr) : Type 0 where
@@ -202,12 +202,12 @@ records_fit p (suc count) at allowed x bytes h =
     let step = bind_ok (record_step p (at, allowed)) _ x h in
     let one = bind_ok (record_at p allowed at) _ step.0 step.1 in
     let two = bind_ok (repeat (record_step p) count step.0.1) _ x step.2 in
-    let is : (one.0.0, (one.0.1, opt_allowed_behind allowed one.0.0)) ≡ step.0 = ok_same _ step.0 one.2 in
-    let again : repeat (record_step p) count (one.0.1, opt_allowed_behind allowed one.0.0) ≡ Ok two.0 =
+    let is : (one.0.0, (one.0.1, opt_allowed_after allowed one.0.0)) ≡ step.0 = ok_same _ step.0 one.2 in
+    let again : repeat (record_step p) count (one.0.1, opt_allowed_after allowed one.0.0) ≡ Ok two.0 =
     ap (λ (v : Rr × (ℕ × Bool)). repeat (record_step p) count v.1) is ∙ two.1 in
     let e : one.0.0 ∷ two.0.0 ≡ x.0 = ap (λ (v : Rr × (ℕ × Bool)). v.0 ∷ two.0.0) is ∙ ap (λ (v : List Rr × (ℕ × Bool)). v.0) (ok_same (step.0.0 ∷ two.0.0, two.0.1) x two.2) in
     let first = record_fits p allowed at one.0 bytes one.1 in
-    let others = records_fit p count one.0.1 (opt_allowed_behind allowed one.0.0) two.0 bytes again in
+    let others = records_fit p count one.0.1 (opt_allowed_after allowed one.0.0) two.0 bytes again in
     subst (λ rs. FitsSection allowed (suc count) rs) e (record {
       each = All-cons ValidRecord one.0.0 two.0.0 first.valid others.each;
       size = ap suc others.size;

@@ -14,12 +14,12 @@ use Rattle.cd_message.proofs.RdataParts.{parts_fill_shapes}
 
 -- what is known of parts that fill a shape
 abbrev PartsFill : Shape → List ℕ → RdataParts → Type 0
-PartsFill s rdata p = (length p.before ≡ s.before) × (length p.names ≡ s.names) × (length p.behind ≡ s.behind) × All IsName p.names
-    × (rdata ≡ p.before ++ concat p.names ++ p.behind)
+PartsFill s rdata p = (length p.before ≡ s.before) × (length p.names ≡ s.names) × (length p.after ≡ s.after) × All IsName p.names
+    × (rdata ≡ p.before ++ concat p.names ++ p.after)
 
 -- the parts that fill a shape
 abbrev parts_of : {s : Shape} {rdata : List ℕ} → FillsShape s rdata → RdataParts
-parts_of f = record { before = f.before; names = f.names; behind = f.behind }
+parts_of f = record { before = f.before; names = f.names; after = f.after }
 
 -- two ways to fill a shape have the same parts
 same_parts : (s : Shape) (rdata : List ℕ) (f g : FillsShape s rdata) → parts_of f ≡ parts_of g
@@ -34,15 +34,15 @@ FillsShape-prop s rdata f g =
     let filled : ((p : RdataParts) × PartsFill s rdata p) → FillsShape s rdata = λ x. record {
       before = x.0.before;
       names = x.0.names;
-      behind = x.0.behind;
+      after = x.0.after;
       before_size = x.1.0;
       names_count = x.1.1;
-      behind_size = x.1.2;
+      after_size = x.1.2;
       are_names = x.1.3;
       is_all = x.1.4;
     } in
-    let one : (p : RdataParts) × PartsFill s rdata p = (parts_of f, (f.before_size, f.names_count, f.behind_size, f.are_names, f.is_all)) in
-    let other : (p : RdataParts) × PartsFill s rdata p = (parts_of g, (g.before_size, g.names_count, g.behind_size, g.are_names, g.is_all)) in
+    let one : (p : RdataParts) × PartsFill s rdata p = (parts_of f, (f.before_size, f.names_count, f.after_size, f.are_names, f.is_all)) in
+    let other : (p : RdataParts) × PartsFill s rdata p = (parts_of g, (g.before_size, g.names_count, g.after_size, g.are_names, g.is_all)) in
     ap filled (Σ_prop_path {B = PartsFill s rdata} (λ p. hlevel props) {u = one} {v = other} (same_parts s rdata f g))
 
 -- RDATA keeps the shape of its type in one way at most

@@ -53,16 +53,16 @@ bytes_are_few p at count = omega (arith, length-take count (drop at p))
 
 -- RDATA with a small shape is light for its own bytes
 shaped_is_light : (p : List ℕ) (s : kind.Shape) (at next end : ℕ) (names : List (List ℕ)) (rdata : List ℕ) → IsSmall (Some s) →
-    ReadsEach (RdataNameAt p end) s.names (at + s.before) names next → next + s.behind ≡ end →
-    rdata ≡ bytes_at p at s.before ++ concat names ++ bytes_at p next s.behind → IsLight 4844 (length rdata) at end
+    ReadsEach (RdataNameAt p end) s.names (at + s.before) names next → next + s.after ≡ end →
+    rdata ≡ bytes_at p at s.before ++ concat names ++ bytes_at p next s.after → IsLight 4844 (length rdata) at end
 shaped_is_light p s at next end names rdata small reads fills is =
     omega (
       arith,
       ap length is,
-      length-append (bytes_at p at s.before ++ concat names) (bytes_at p next s.behind),
+      length-append (bytes_at p at s.before ++ concat names) (bytes_at p next s.after),
       length-append (bytes_at p at s.before) (concat names),
       bytes_are_few p at s.before,
-      bytes_are_few p next s.behind,
+      bytes_are_few p next s.after,
       names_are_light p end reads,
       small.1,
     )

@@ -24,7 +24,7 @@ use Rattle.cd_message.proofs.PieceReadings.{IsRead, IsReadAs, ReadsInTurn, Reads
 abbrev pub RdataIsRead : ℕ → List ℕ → Piece → Type 0
 RdataIsRead rtype rdata piece = IsRead (λ p at end. ReadsRdata p rtype at end rdata) piece
 
--- names that are read one behind the other end as many bytes behind the first at least
+-- names that are read one after the other end as many bytes after the first at least
 names_take_bytes : (p : List ℕ) {count at : ℕ} {names : List (List ℕ)} {end : ℕ} → ReadsEach (NameAt p) count at names end → at + length names ≤ end
 names_take_bytes p (none at) = omega arith
 names_take_bytes p (one_more count at next end name names first others) =
@@ -37,17 +37,17 @@ names_of_rdata p last (none at) within = none at
 names_of_rdata p last (one_more count at next end name names first others) within =
     one_more count at next end name names (first, omega (arith, names_take_bytes p others)) (names_of_rdata p last others within)
 
--- how the parts of RDATA stand one behind the other
+-- how the parts of RDATA stand one after the other
 abbrev PartsAt : RdataParts → List ℕ → ℕ → ℕ → Type 0
-PartsAt parts = ReadsInTurn (BytesAt parts.before) (ReadsInTurn (ReadsItems NameAt parts.names) (BytesAt parts.behind))
+PartsAt parts = ReadsInTurn (BytesAt parts.before) (ReadsInTurn (ReadsItems NameAt parts.names) (BytesAt parts.after))
 
 -- no bytes, no names and no bytes are no bytes
-no_parts : (before : List ℕ) (names : List (List ℕ)) (behind : List ℕ) → length before ≡ 0 → length names ≡ 0 → length behind ≡ 0 → before ++ concat names ++ behind ≡ []
-no_parts before names behind b n h = rw (nil_from_length before b, nil_from_length names n, nil_from_length behind h) refl
+no_parts : (before : List ℕ) (names : List (List ℕ)) (after : List ℕ) → length before ≡ 0 → length names ≡ 0 → length after ≡ 0 → before ++ concat names ++ after ≡ []
+no_parts before names after b n h = rw (nil_from_length before b, nil_from_length names n, nil_from_length after h) refl
 
 -- the parts that fill a shape
 abbrev parts_of : {s : kind.Shape} {rdata : List ℕ} → FillsShape s rdata → RdataParts
-parts_of fills = record { before = fills.before; names = fills.names; behind = fills.behind }
+parts_of fills = record { before = fills.before; names = fills.names; after = fills.after }
 
 -- where the parts that fill a shape stand, the RDATA stands
 filled_rdata : (rtype : ℕ) (s : kind.Shape) (rdata : List ℕ) (fills : FillsShape s rdata) → shape_of rtype ≡ Some s → (p : List ℕ) (at end : ℕ) →
@@ -58,34 +58,34 @@ filled_rdata rtype s rdata fills is p at end parts =
     let many = names_take_bytes p parts.2.1 in
     let size = fills.before_size in
     let number = fills.names_count in
-    let size_behind = fills.behind_size in
+    let size_after = fills.after_size in
     elim (cases_eq at end) [
-      | inl same ↦ empty same (fills.is_all ∙ no_parts fills.before fills.names fills.behind (omega arith) (omega arith) (omega arith))
+      | inl same ↦ empty same (fills.is_all ∙ no_parts fills.before fills.names fills.after (omega arith) (omega arith) (omega arith))
       | inr apart ↦
           (let place : start ≡ at + s.before = omega arith in
           let names : ReadsEach (RdataNameAt p end) s.names (at + s.before) fills.names stop =
           subst (λ k. ReadsEach (RdataNameAt p end) s.names k fills.names stop) place
           (subst (λ k. ReadsEach (RdataNameAt p end) k start fills.names stop) number (names_of_rdata p end parts.2.1 (omega arith))) in
           let front : bytes_at p at s.before ≡ fills.before = ap (λ k. bytes_at p at k) (sym size) ∙ parts.1.0 in
-          let back : bytes_at p stop s.behind ≡ fills.behind = ap (λ k. bytes_at p stop k) (sym size_behind) ∙ parts.2.2.0 in
+          let back : bytes_at p stop s.after ≡ fills.after = ap (λ k. bytes_at p stop k) (sym size_after) ∙ parts.2.2.0 in
           shaped s fills.names stop apart is (omega arith) names (omega arith)
-          (fills.is_all ∙ ap (λ t. t ++ concat fills.names ++ fills.behind) (sym front) ∙ ap (λ t. bytes_at p at s.before ++ concat fills.names ++ t) (sym back)))
+          (fills.is_all ∙ ap (λ t. t ++ concat fills.names ++ fills.after) (sym front) ∙ ap (λ t. bytes_at p at s.before ++ concat fills.names ++ t) (sym back)))
     ]
 
 -- parts that fill a shape are read as the RDATA, however the names are written that are read as themselves
 filled_piece_is_read : (piece : List ℕ → Piece) → ((name : List ℕ) → IsName name → IsReadAs NameAt name (piece name)) →
     (rtype : ℕ) (s : kind.Shape) (rdata : List ℕ) (fills : FillsShape s rdata) → shape_of rtype ≡ Some s →
-    RdataIsRead rtype rdata (in_turn (bytes_piece fills.before) (in_turn (each_in_turn piece fills.names) (bytes_piece fills.behind)))
+    RdataIsRead rtype rdata (in_turn (bytes_piece fills.before) (in_turn (each_in_turn piece fills.names) (bytes_piece fills.after)))
 filled_piece_is_read piece read rtype s rdata fills is =
     read_otherwise (λ p at end within parts. filled_rdata rtype s rdata fills is p at end parts)
     (in_turn_are_read (bytes_are_read fills.before)
     (in_turn_are_read (each_in_turn_is_read NameAt piece fills.names (All-weaker IsName (λ name. IsReadAs NameAt name (piece name)) read fills.names fills.are_names))
-    (bytes_are_read fills.behind)))
+    (bytes_are_read fills.after)))
 
 -- a name that is written without pointers is read as itself
 plain_name_is_read : (name : List ℕ) → IsName name → IsReadAs NameAt name (bytes_piece name)
 plain_name_is_read name is = record {
-  behind = λ bytes standing are size. record { reads = λ more. plain_names bytes name more is; suffixes = ((bytes_are_read name).behind bytes standing are size).suffixes };
+  after = λ bytes standing are size. record { reads = λ more. plain_names bytes name more is; suffixes = ((bytes_are_read name).after bytes standing are size).suffixes };
 }
 
 -- names that are written without pointers are their bytes
@@ -98,10 +98,10 @@ plain_names_are_bytes (name ∷ others) standing at =
 -- RDATA that fills a shape is read as itself where its bytes stand
 plain_rdata_is_read : (rtype : ℕ) (s : kind.Shape) (rdata : List ℕ) → FillsShape s rdata → shape_of rtype ≡ Some s → RdataIsRead rtype rdata (bytes_piece rdata)
 plain_rdata_is_read rtype s rdata fills is =
-    let group : fills.before ++ (concat fills.names ++ fills.behind) ≡ rdata = sym (fills.is_all ∙ append_assoc fills.before (concat fills.names) fills.behind) in
+    let group : fills.before ++ (concat fills.names ++ fills.after) ≡ rdata = sym (fills.is_all ∙ append_assoc fills.before (concat fills.names) fills.after) in
     same_piece_is_read
     (λ standing at.
-    ap (λ (w : Written). record { bytes = fills.before ++ (w.bytes ++ fills.behind); suffixes = w.suffixes ++ [] })
+    ap (λ (w : Written). record { bytes = fills.before ++ (w.bytes ++ fills.after); suffixes = w.suffixes ++ [] })
     (plain_names_are_bytes fills.names (standing ++ []) (at + length fills.before)) ∙ ap only_bytes group)
     (filled_piece_is_read bytes_piece plain_name_is_read rtype s rdata fills is)
 

@@ -51,8 +51,8 @@ record_is_read r fit valid =
     let fields : List ℕ = record_fields r in
     let owner_end : ℕ = parts.0 in
     let there : bytes_at p owner_end (length fields) ≡ fields = parts.2.1.0 in
-    let behind : parts.2.0 ≡ owner_end + 8 = parts.2.1.1 in
-    let size : be16 parts.2.0 p ≡ be16 (owner_end + 8) p = ap (λ k. be16 k p) behind in
+    let after : parts.2.0 ≡ owner_end + 8 = parts.2.1.1 in
+    let size : be16 parts.2.0 p ≡ be16 (owner_end + 8) p = ap (λ k. be16 k p) after in
     let ends : next ≡ parts.2.0 + 2 + be16 parts.2.0 p = parts.2.2.0 in
     let place : parts.2.0 + 2 ≡ owner_end + 10 = omega arith in
     record {
@@ -80,13 +80,13 @@ records_are_read rs fit valid =
     All-weaker (Contains rs) (λ r. IsReadAs ReadsRecord r (record_piece r))
     (λ r has. record_is_read r (All-contains RecordNumbersFit rs r fit has) (All-contains ValidRecord rs r valid has)) rs (All-contains_itself rs)
 
--- how the parts of a message stand one behind the other
+-- how the parts of a message stand one after the other
 abbrev PartsAt : Message → List ℕ → ℕ → ℕ → Type 0
 PartsAt m =
     ReadsInTurn (BytesAt (header_of m)) (ReadsInTurn (ReadsItems ReadsQuestion m.questions)
     (ReadsInTurn (ReadsItems ReadsRecord m.answers) (ReadsInTurn (ReadsItems ReadsRecord m.authority) (ReadsItems ReadsRecord m.additional))))
 
--- the parts of a message are read one behind the other
+-- the parts of a message are read one after the other
 parts_are_read : (m : Message) → NumbersFit m → Valid m → IsRead (PartsAt m) (message_piece m)
 unfolding message_piece
 parts_are_read m fit valid =
@@ -96,7 +96,7 @@ parts_are_read m fit valid =
     (in_turn_are_read (each_in_turn_is_read ReadsRecord record_piece m.authority (records_are_read m.authority fit.authority valid.authority.records_are_valid))
     (each_in_turn_is_read ReadsRecord record_piece m.additional (records_are_read m.additional fit.additional valid.additional.records_are_valid)))))
 
--- records of a valid section that stand one behind the other are the section, if their number is told
+-- records of a valid section that stand one after the other are the section, if their number is told
 section_is_read : (p : List ℕ) (opts count at : ℕ) (rs : List Rr) (end : ℕ) → ValidSection opts rs → count ≡ length rs → ReadsItems ReadsRecord rs p at end → ReadsSection p opts count at rs end
 section_is_read p opts count at rs end valid told are = record {
   are_read = subst (λ k. ReadsEach (ReadsRecord p) k at rs end) (sym told) are;
@@ -137,7 +137,7 @@ parts_are_message m fit valid p used parts =
 written_is_read : (m : Message) → NumbersFit m → Valid m → length (written_message m) ≤ 65535 → ReadsMessage (written_message m) m (length (written_message m))
 written_is_read m fit valid size =
     let bytes : List ℕ = written_message m in
-    let parts = ((parts_are_read m fit valid).behind [] [] (All-nil _) size).reads [] in
+    let parts = ((parts_are_read m fit valid).after [] [] (All-nil _) size).reads [] in
     let end : 0 + length bytes ≡ length bytes = omega arith in
     subst (λ p. ReadsMessage p m (length bytes)) (append-nil bytes)
     (subst (λ used. ReadsMessage (bytes ++ []) m used) end (parts_are_message m fit valid (bytes ++ []) (0 + length bytes) parts))

@@ -18,12 +18,12 @@ MessagesAreValid = (payload : List ℕ) (message : Message) (used : ℕ) → Are
 abbrev pub MessagesLieWithin : Type 0
 MessagesLieWithin = (payload : List ℕ) (message : Message) (used : ℕ) → Spells payload message used → (12 ≤ used) × (used ≤ length payload)
 
--- what a payload spells it spells with more bytes behind it
+-- what a payload spells it spells with more bytes after it
 abbrev pub MessagesStay : Type 0
 MessagesStay = (payload more : List ℕ) (message : Message) (used : ℕ) → Spells payload message used → Spells (payload ++ more) message used
 
--- A message that is read weighs at most 829 sixteenths of its bytes: a record of two names in RDATA, all of them pointers, weighs 829 in 16 bytes,
--- and nothing weighs more for its bytes.
+-- A message that is read weighs at most 829 sixteenths of its bytes: a record of two names in RDATA, all of them
+-- pointers, weighs 829 in 16 bytes, and nothing weighs more for its bytes.
 abbrev pub MessageWeightsAreLinear : Type 0
 MessageWeightsAreLinear = (payload : List ℕ) (message : Message) (used : ℕ) → Spells payload message used → 16 * weight_of message ≤ 829 * used
 

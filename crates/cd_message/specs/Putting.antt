@@ -16,7 +16,7 @@ Puts piece old new (Ok _) = Writes piece old.bytes old.names new.bytes new.names
 Puts piece old new (Err TooLong) = 65535 < length old.bytes + length (piece old.names (length old.bytes)).bytes
 Puts piece old new (Err NoMemory) = Unit {0}
 
--- so many bytes are so many names without pointers, with which some bytes begin; or these do not begin with so many names
+-- so many bytes are so many names without pointers, with which some bytes begin; or these do not begin so
 abbrev pub AreNamesInFront : ℕ → List ℕ → Option ℕ → Type 0
 AreNamesInFront count bytes None = names_in_front count bytes ≡ None
 AreNamesInFront count bytes (Some size) = (names : List (List ℕ)) × (names_in_front count bytes ≡ Some (names, drop size bytes)) × (size ≤ length bytes) × (take size bytes ≡ concat names) × All IsName names
@@ -24,7 +24,7 @@ AreNamesInFront count bytes (Some size) = (names : List (List ℕ)) × (names_in
 -- slices are the parts of RDATA, if there are parts
 abbrev pub ArePartsOf : Option RdataParts → Option Parts → Type 0
 ArePartsOf parts None = parts ≡ None
-ArePartsOf parts (Some found) = (names : List (List ℕ)) × (parts ≡ Some (record { before = found.before.now; names = names; behind = found.behind.now })) × (found.names.now ≡ concat names) × All IsName names
+ArePartsOf parts (Some found) = (names : List (List ℕ)) × (parts ≡ Some (record { before = found.before.now; names = names; after = found.after.now })) × (found.names.now ≡ concat names) × All IsName names
 
 -- the sections of a message have at most 65,535 entries each
 pub record FewEntries (m : Message) : Type 0 where

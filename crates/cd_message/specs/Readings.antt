@@ -10,7 +10,7 @@ abbrev pub ◌>>=◌ : {A B : Type 0} → Result A MsgWhy → (A → Result B Ms
 (Ok x) >>= read = read x
 (Err why) >>= read = Err why
 
--- So many readings, each at the place behind the one before: what they give, and the place behind the last.
+-- So many readings, each at the place after the one before: what they give, and the place after the last.
 unfoldable pub repeat : {A P : Type 0} → (P → Result (A × P) MsgWhy) → ℕ → P → Result (List A × P) MsgWhy
 repeat read zero place = Ok ([], place)
 repeat read (suc count) place = do
@@ -34,7 +34,7 @@ abbrev pub Gives : {X Y : Type 0} → (X → Y) → Result X ParseFault → Resu
 Gives view (Ok x) reading = reading ≡ Ok (view x)
 Gives view (Err e) reading = GivesFault e reading
 
--- a call appends the bytes that a reading gives and answers the place behind them, unless memory ran out
+-- a call appends the bytes that a reading gives and answers the place after them, unless memory ran out
 abbrev pub Appends : {P : Type 0} → List ℕ → List ℕ → Result P ParseFault → Result (List ℕ × P) MsgWhy → Type 0
 Appends old new (Ok place) reading = (bytes : List ℕ) × (reading ≡ Ok (bytes, place)) × (new ≡ old ++ bytes)
 Appends old new (Err e) reading = GivesFault e reading

@@ -1,4 +1,4 @@
--- The rules of messages one by one (RFC 1035 section 4, RFC 6891 section 6), as relations. A payload is read from left to right.
+-- The rules of messages one by one, as relations, from left to right (RFC 1035 section 4, RFC 6891 section 6).
 use Rattle.std.specs.Prelude.{◌≡◌, ◌≢◌, ◌↔◌, ℕ, zero, suc, ◌+◌, ◌-◌, ◌<◌, ◌≤◌, List, [], ◌∷◌, ◌++◌, length, take, true, false, Some, None, Result, Ok, Err, ◌⊎◌}
 use Rattle.std.specs.List.{All, concat, count_by}
 use Rattle.cd_name.specs.Names.{NameAt, NameBroken, run_is_cut}
@@ -15,13 +15,13 @@ use Rattle.cd_message.specs.Messages.{Spells, Breaks, bytes_at, why_of, rdata_wh
 use Rattle.cd_message.specs.Shapes.{shape_of}
 use Rattle.cd_message.specs.Valid.{is_opt}
 
--- So many items stand one behind the other from an offset on, and end before the last offset.
+-- So many items stand one after the other from an offset on, and end before the last offset.
 pub data ReadsEach {A : Type 0} (Reads : ℕ → A → ℕ → Type 0) : ℕ → ℕ → List A → ℕ → Type 0 where
   none : (at : ℕ) → ReadsEach Reads zero at [] at
   one_more : (count at next end : ℕ) (item : A) (items : List A) → Reads at item next → ReadsEach Reads count next items end →
       ReadsEach Reads (suc count) at (item ∷ items) end
 
--- Of so many items from an offset on, some are read, and the one behind them breaks a rule first.
+-- Of so many items from an offset on, some are read, and the one after them breaks a rule first.
 pub record BreaksAmong {A : Type 0} (Reads : ℕ → A → ℕ → Type 0) (Broken : List A → ℕ → Type 0) (count at : ℕ) : Type 0 where
   pub before : List A
   pub here : ℕ
@@ -51,19 +51,19 @@ RdataNameAt p end at name next = NameAt p at name next × (next ≤ end)
 
 -- a name of RDATA that ends at an offset breaks a rule
 pub data BreaksRdataName (p : List ℕ) (end at : ℕ) (why : MsgWhy) : Type 0 where
-  -- its first run goes on behind the RDATA: its labels before the end are too long, or it does not fill the RDATA
+  -- its first run goes on after the RDATA: its labels before the end are too long, or it does not fill the RDATA
   past_end : (broken : NameWhy) → run_is_cut (take end p) at ≡ true → NameBroken (take end p) at broken → why ≡ rdata_why_of broken → BreaksRdataName p end at why
   -- its first run ends within the RDATA, and it breaks a rule of names
   within_end : (broken : NameWhy) → run_is_cut (take end p) at ≡ false → NameBroken p at broken → why ≡ why_of broken → BreaksRdataName p end at why
 
--- The RDATA of a type stands between two offsets (RFC 1035 3.3): it may be empty; without a shape it is any bytes; else it is filled by bytes, names
--- and bytes, and its names are kept without pointers.
+-- The RDATA of a type stands between two offsets (RFC 1035 3.3): it may be empty; without a shape it is any bytes;
+-- else it is filled by bytes, names and bytes, and its names are kept without pointers.
 pub data ReadsRdata (p : List ℕ) (rtype at end : ℕ) (rdata : List ℕ) : Type 0 where
   empty : at ≡ end → rdata ≡ [] → ReadsRdata p rtype at end rdata
   any_bytes : at ≢ end → shape_of rtype ≡ None → rdata ≡ bytes_at p at (end - at) → ReadsRdata p rtype at end rdata
   shaped : (s : kind.Shape) (names : List (List ℕ)) (next : ℕ) → at ≢ end → shape_of rtype ≡ Some s → at + s.before ≤ end →
-      ReadsEach (RdataNameAt p end) s.names (at + s.before) names next → next + s.behind ≡ end →
-      rdata ≡ bytes_at p at s.before ++ concat names ++ bytes_at p next s.behind → ReadsRdata p rtype at end rdata
+      ReadsEach (RdataNameAt p end) s.names (at + s.before) names next → next + s.after ≡ end →
+      rdata ≡ bytes_at p at s.before ++ concat names ++ bytes_at p next s.after → ReadsRdata p rtype at end rdata
 
 -- the RDATA of a type between two offsets breaks a rule
 pub data BreaksRdata (p : List ℕ) (rtype at end : ℕ) (why : MsgWhy) : Type 0 where
@@ -72,11 +72,11 @@ pub data BreaksRdata (p : List ℕ) (rtype at end : ℕ) (why : MsgWhy) : Type 0
   -- one of its names breaks a rule
   among_names : (s : kind.Shape) → at ≢ end → shape_of rtype ≡ Some s → at + s.before ≤ end →
       BreaksAmong (RdataNameAt p end) (λ before here. BreaksRdataName p end here why) s.names (at + s.before) → BreaksRdata p rtype at end why
-  -- behind its names it has too few bytes or too many
-  behind_names : (s : kind.Shape) (names : List (List ℕ)) (next : ℕ) → at ≢ end → shape_of rtype ≡ Some s → at + s.before ≤ end →
-      ReadsEach (RdataNameAt p end) s.names (at + s.before) names next → next + s.behind ≢ end → why ≡ Shape → BreaksRdata p rtype at end why
+  -- after its names it has too few bytes or too many
+  after_names : (s : kind.Shape) (names : List (List ℕ)) (next : ℕ) → at ≢ end → shape_of rtype ≡ Some s → at + s.before ≤ end →
+      ReadsEach (RdataNameAt p end) s.names (at + s.before) names next → next + s.after ≢ end → why ≡ Shape → BreaksRdata p rtype at end why
 
--- A record stands at an offset and ends before the next one: an owner, a type, a class, a TTL, the length of its RDATA and its RDATA (RFC 1035 4.1.3).
+-- A record stands at an offset and ends before the next one: owner, type, class, TTL, RDLENGTH, RDATA (RFC 1035 4.1.3).
 pub record ReadsRecord (p : List ℕ) (at : ℕ) (r : Rr) (next : ℕ) : Type 0 where
   pub owner_end : ℕ
   pub is_owned : NameAt p at r.owner owner_end
@@ -87,21 +87,21 @@ pub record ReadsRecord (p : List ℕ) (at : ℕ) (r : Rr) (next : ℕ) : Type 0 
   pub is_there : next ≤ length p
   pub has_rdata : ReadsRdata p r.rtype (owner_end + 10) next r.rdata
 
--- The rule of OPT records, in a section that may hold so many of them (RFC 6891 6.1.1, 6.1.2): no more stand in it, and each is the root's.
+-- The OPT rule of a section that may hold so many (RFC 6891 6.1.1, 6.1.2): no more stand in it, and each is the root's.
 pub record KeepsOptRule (opts : ℕ) (records : List Rr) : Type 0 where
   pub few : count_by is_opt records ≤ opts
   pub of_root : All (λ r. r.rtype ≡ OPT → r.owner ≡ 0 ∷ []) records
 
--- Records of a section stand one behind the other, and the rule of OPT records is kept.
+-- Records of a section stand one after the other, and the rule of OPT records is kept.
 pub record ReadsSection (p : List ℕ) (opts count at : ℕ) (records : List Rr) (end : ℕ) : Type 0 where
   pub are_read : ReadsEach (ReadsRecord p) count at records end
   pub opt_rule : KeepsOptRule opts records
 
--- behind some records of its section, a record of this type and owner breaks the rule of OPT records
+-- after some records of its section, a record of this type and owner breaks the rule of OPT records
 abbrev pub BreaksOptRule : ℕ → List Rr → ℕ → List ℕ → Type 0
 BreaksOptRule opts before rtype owner = (rtype ≡ OPT) × ((opts ≤ count_by is_opt before) ⊎ (owner ≢ 0 ∷ []))
 
--- a record behind some records of its section breaks a rule
+-- a record after some records of its section breaks a rule
 pub data BreaksRecord (p : List ℕ) (opts : ℕ) (why : MsgWhy) (before : List Rr) (at : ℕ) : Type 0 where
   -- its owner breaks a rule of names
   record_owner : (broken : NameWhy) → NameBroken p at broken → why ≡ why_of broken → BreaksRecord p opts why before at
@@ -117,12 +117,12 @@ pub data BreaksRecord (p : List ℕ) (opts : ℕ) (why : MsgWhy) (before : List 
   record_rdata : (owner : List ℕ) (next : ℕ) → NameAt p at owner next → (BreaksOptRule opts before (be16 next p) owner → ⊥) →
       next + 10 + be16 (next + 8) p ≤ length p → BreaksRdata p (be16 next p) (next + 10) (next + 10 + be16 (next + 8) p) why → BreaksRecord p opts why before at
 
--- of the records of a section, the one behind some that are read and keep the rule of OPT records breaks a rule first
+-- of the records of a section, the one after some that are read and keep the rule of OPT records breaks a rule first
 abbrev pub BreaksSection : List ℕ → ℕ → ℕ → ℕ → MsgWhy → Type 0
 BreaksSection p opts count at why = BreaksAmong (ReadsRecord p) (λ before here. KeepsOptRule opts before × BreaksRecord p opts why before here) count at
 
--- A payload spells a message in so many bytes: a header of twelve bytes, questions, answers, authority and additional records (RFC 1035 4.1).
--- An OPT record stands in the additional section alone, once at most (RFC 6891 6.1.1).
+-- A payload spells a message in so many bytes: a header of twelve bytes, questions, answers, authority and additional
+-- records (RFC 1035 4.1). An OPT record stands in the additional section alone, once at most (RFC 6891 6.1.1).
 pub record ReadsMessage (p : List ℕ) (m : Message) (used : ℕ) : Type 0 where
   pub questions_end : ℕ
   pub answers_end : ℕ
@@ -141,12 +141,12 @@ pub data BreaksMessage (p : List ℕ) (why : MsgWhy) : Type 0 where
   in_header : length p < 12 → why ≡ Short → BreaksMessage p why
   -- a question breaks a rule
   in_questions : 12 ≤ length p → BreaksAmong (ReadsQuestion p) (λ before here. BreaksQuestion p here why) (be16 4 p) 12 → BreaksMessage p why
-  -- behind the questions an answer breaks a rule
+  -- after the questions an answer breaks a rule
   in_answers : (qs : List Question) (at : ℕ) → 12 ≤ length p → ReadsEach (ReadsQuestion p) (be16 4 p) 12 qs at → BreaksSection p 0 (be16 6 p) at why → BreaksMessage p why
-  -- behind the answers a record of the authority section breaks a rule
+  -- after the answers a record of the authority section breaks a rule
   in_authority : (qs : List Question) (answers : List Rr) (next at : ℕ) → 12 ≤ length p → ReadsEach (ReadsQuestion p) (be16 4 p) 12 qs next →
       ReadsSection p 0 (be16 6 p) next answers at → BreaksSection p 0 (be16 8 p) at why → BreaksMessage p why
-  -- behind the authority section an additional record breaks a rule
+  -- after the authority section an additional record breaks a rule
   in_additional : (qs : List Question) (answers authority : List Rr) (first second at : ℕ) → 12 ≤ length p → ReadsEach (ReadsQuestion p) (be16 4 p) 12 qs first →
       ReadsSection p 0 (be16 6 p) first answers second → ReadsSection p 0 (be16 8 p) second authority at → BreaksSection p 1 (be16 10 p) at why → BreaksMessage p why
 

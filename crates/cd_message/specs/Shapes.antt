@@ -4,14 +4,15 @@ use Rattle.cd_message.specs.declared.shape.Shape.{Shape}
 
 -- bytes, names and bytes; a message that is written compresses the names or not
 abbrev pub shape : ℕ → ℕ → ℕ → Bool → Option Shape
-shape before names behind compressed = Some (record { before = before; names = names; behind = behind; compressed = compressed })
+shape before names after compressed = Some (record { before = before; names = names; after = after; compressed = compressed })
 
 -- NS, MD, MF, CNAME, MB, MG, MR and PTR hold one name (RFC 1035 3.3)
 abbrev pub holds_name : ℕ → Bool
 holds_name t = nat_eq t 2 || nat_eq t 3 || nat_eq t 4 || nat_eq t 5 || nat_eq t 7 || nat_eq t 8 || nat_eq t 9 || nat_eq t 12
 
--- The shape of a type's RDATA: SOA is 6, MINFO 14 and MX 15 (RFC 1035 3.3), RP is 17 (RFC 1183 2.2), AFSDB 18 and RT 21 (RFC 1183 1, 3.3), PX is 26 (RFC 2163 4), SRV is 33 (RFC 2782).
--- Names are compressed only in the types of RFC 1035 (RFC 3597 4).
+-- The shape of a type's RDATA: SOA is 6, MINFO 14 and MX 15 (RFC 1035 3.3), RP is 17 (RFC 1183 2.2), AFSDB 18 and RT
+-- 21 (RFC 1183 1, 3.3), PX is 26 (RFC 2163 4), SRV is 33 (RFC 2782). Names are compressed only in the types of RFC
+-- 1035 (RFC 3597 4).
 unfoldable pub shape_of : ℕ → Option Shape
 shape_of t =
     if holds_name t then shape 0 1 0 true

@@ -12,12 +12,12 @@ use Rattle.cd_message.specs.Shapes.{shape_of}
 pub record FillsShape (s : Shape) (rdata : List ℕ) : Type 0 where
   pub before : List ℕ
   pub names : List (List ℕ)
-  pub behind : List ℕ
+  pub after : List ℕ
   pub before_size : length before ≡ s.before
   pub names_count : length names ≡ s.names
-  pub behind_size : length behind ≡ s.behind
+  pub after_size : length after ≡ s.after
   pub are_names : All IsName names
-  pub is_all : rdata ≡ before ++ concat names ++ behind
+  pub is_all : rdata ≡ before ++ concat names ++ after
 
 -- RDATA of a type with no shape is any bytes; else it is empty or fills the shape
 abbrev pub KeepsShape : Option Shape → List ℕ → Type 0
@@ -42,7 +42,7 @@ pub record ValidSection (opts : ℕ) (records : List Rr) : Type 0 where
   pub few_records : length records ≤ 65535
   pub few_opts : count_by is_opt records ≤ opts
 
--- a message with at most 65,535 entries in each section, and at most one OPT record, which is additional (RFC 6891 6.1.1)
+-- a message with at most 65,535 entries in each section, and at most one OPT record, an additional one (RFC 6891 6.1.1)
 pub record Valid (message : Message) : Type 0 where
   pub names_are_names : All (λ q. IsName q.name) message.questions
   pub few_questions : length message.questions ≤ 65535

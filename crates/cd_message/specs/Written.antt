@@ -21,7 +21,7 @@ in_turn first second standing at =
     let b : Written = second (standing ++ a.suffixes) (at + length a.bytes) in
     record { bytes = a.bytes ++ b.bytes; suffixes = a.suffixes ++ b.suffixes }
 
--- a piece for each item, one behind the other
+-- a piece for each item, one after the other
 unfoldable pub each_in_turn : {A : Type 0} → (A → Piece) → List A → Piece
 each_in_turn piece [] = bytes_piece []
 each_in_turn piece (x ∷ xs) = in_turn (piece x) (each_in_turn piece xs)
@@ -32,7 +32,7 @@ with_length piece standing at =
     let w : Written = piece standing (at + 2) in
     record { bytes = to_be_bytes w16 (length w.bytes) ++ w.bytes; suffixes = w.suffixes }
 
--- so many names without pointers, with which some bytes begin, and the bytes behind them
+-- so many names without pointers, with which some bytes begin, and the bytes after them
 unfoldable pub names_in_front : ℕ → List ℕ → Option (List (List ℕ) × List ℕ)
 names_in_front zero bytes = Some ([], bytes)
 names_in_front (suc count) bytes =
@@ -42,13 +42,13 @@ names_in_front (suc count) bytes =
 pub record RdataParts : Type 0 where
   pub before : List ℕ
   pub names : List (List ℕ)
-  pub behind : List ℕ
+  pub after : List ℕ
 
 -- the parts of RDATA that fills a shape
 abbrev pub parts_of_shape : kind.Shape → List ℕ → Option RdataParts
 parts_of_shape s rdata =
     if nat_lt (length rdata) s.before then None
-    else option_and_then (λ names. if nat_eq (length names.1) s.behind then Some (record { before = take s.before rdata; names = names.0; behind = names.1 }) else None)
+    else option_and_then (λ names. if nat_eq (length names.1) s.after then Some (record { before = take s.before rdata; names = names.0; after = names.1 }) else None)
     (names_in_front s.names (drop s.before rdata))
 
 -- the parts of RDATA that fills a shape whose names are compressed (RFC 3597 4)
@@ -58,7 +58,7 @@ compressed_parts (Some s) rdata = if s.compressed then parts_of_shape s rdata el
 
 -- RDATA in its parts
 abbrev pub parts_piece : RdataParts → Piece
-parts_piece parts = in_turn (bytes_piece parts.before) (in_turn (each_in_turn name_piece parts.names) (bytes_piece parts.behind))
+parts_piece parts = in_turn (bytes_piece parts.before) (in_turn (each_in_turn name_piece parts.names) (bytes_piece parts.after))
 
 -- RDATA of a type: with compressed names, if it fills a shape whose names are compressed, and else as it is
 unfoldable pub rdata_piece : ℕ → List ℕ → Piece

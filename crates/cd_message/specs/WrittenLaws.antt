@@ -33,4 +33,4 @@ WrittenMessagesAreRead = (m : Message) → NumbersFit m → Valid m → length (
 -- RDATA has parts of a shape exactly if it fills that, and they are those that fill it
 abbrev pub PartsFillShapes : Type 0
 PartsFillShapes = (s : kind.Shape) (rdata : List ℕ) (parts : RdataParts) → (parts_of_shape s rdata ≡ Some parts) ↔
-    ((fills : FillsShape s rdata) × (fills.before ≡ parts.before) × (fills.names ≡ parts.names) × (fills.behind ≡ parts.behind))
+    ((fills : FillsShape s rdata) × (fills.before ≡ parts.before) × (fills.names ≡ parts.names) × (fills.after ≡ parts.after))

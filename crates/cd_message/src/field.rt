@@ -1,15 +1,15 @@
 //! Reads the numbers, names and questions of a message.
 
-ghost use Rattle.std.specs.Prelude.{◌≡◌, ◌+◌, ◌<◌, ◌≤◌, length, IfOk};
+ghost use Rattle.std.specs.Prelude.{◌≡◌, ◌+◌, ◌<◌, ◌≤◌, [], length, IfOk, Ok};
 ghost use Rattle.cd_message.specs.Messages;
 ghost use Rattle.cd_message.specs.Readings.{Gives};
 
 use crate::message::{MsgWhy, ParseFault, Question};
 use cd_bytes::be16;
-use cd_name::{Name, NameFault, NameWhy, read_name};
-use std::alloc::Global;
+use cd_name::{Name, NameFault, NameReader, NameWhy};
+use std::alloc::{AllocError, Global};
 
-/// A rule of names, as a rule of messages.
+// A rule of names, as a rule of messages.
 pub(crate) fn why_of(why: NameWhy) -> MsgWhy
     ensures { result ≡ Messages.why_of why }
 {
@@ -21,29 +21,41 @@ pub(crate) fn why_of(why: NameWhy) -> MsgWhy
     }
 }
 
-/// The name at an offset, and the offset behind it.
-#[tactic(auto, unfolding(crate::specs::Messages::name_in))]
-pub(crate) fn name_in(alloc: Global, payload: &[u8], at: usize) -> Result<(Name, usize), ParseFault>
-    ensures read { Gives (λ x. (x.0, x.1)) result (Messages.name_in payload.now at) }
-    ensures within { IfOk result (λ x. (at < x.1) × (x.1 ≤ length payload.now)) }
+// An empty list with room for so many items.
+pub(crate) fn room_for<T>(alloc: Global, count: usize) -> Result<Vec<T>, ParseFault>
+    ensures { Gives (λ items. items.items) result (Ok []) }
 {
-    match read_name(alloc, payload, at) {
+    match Vec::with_capacity(alloc, count) {
+        Ok(items) => Ok(items),
+        Err(AllocError) => Err(ParseFault::NoMemory),
+    }
+}
+
+// The name at an offset, and the offset after it.
+#[tactic(auto, unfolding(crate::specs::Messages::name_in))]
+pub(crate) fn name_in(reader: &mut NameReader<'_>, at: usize) -> Result<(Name, usize), ParseFault>
+    ensures read { Gives (λ x. (x.0, x.1)) result (Messages.name_in reader.old at) }
+    ensures within { IfOk result (λ x. (at < x.1) × (x.1 ≤ length reader.old)) }
+    ensures same { reader.new ≡ reader.old }
+{
+    match reader.read(at) {
         Ok((name, next)) => Ok((name, next)),
         Err(NameFault::Bad(why)) => Err(ParseFault::Malformed(why_of(why))),
         Err(NameFault::NoMemory) => Err(ParseFault::NoMemory),
     }
 }
 
-/// The question at an offset, and the offset behind it.
+// The question at an offset, and the offset after it.
 #[tactic(auto, unfolding(crate::specs::Messages::question_at))]
 pub(crate) fn question_at(
-    alloc: Global,
-    payload: &[u8],
+    reader: &mut NameReader<'_>,
     at: usize,
 ) -> Result<(Question, usize), ParseFault>
-    ensures { Gives (λ x. (x.0, x.1)) result (Messages.question_at payload.now at) }
+    ensures read { Gives (λ x. (x.0, x.1)) result (Messages.question_at reader.old at) }
+    ensures same { reader.new ≡ reader.old }
 {
-    let (name, next) = name_in(alloc, payload, at)?;
+    let payload = reader.payload();
+    let (name, next) = name_in(reader, at)?;
     if payload.len() - next < 4 {
         return Err(ParseFault::Malformed(MsgWhy::Short));
     }

@@ -14,7 +14,7 @@ pub fn messages_lie_within()
     ensures { MessagesLieWithin }
 {}
 
-/// What a payload spells it spells with more bytes behind it, in as many bytes.
+/// What a payload spells it spells with more bytes after it, in as many bytes.
 pub fn messages_stay()
     ensures { MessagesStay }
 {}

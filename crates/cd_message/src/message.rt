@@ -22,7 +22,8 @@ pub enum MsgWhy {
     /// RDATA is not filled by what its type says that it holds.
     #[error("RDATA does not have the shape of its type")]
     Shape,
-    /// An OPT record stands outside the additional section, is a second one, or has an owner other than the root (RFC 6891 6.1.1, 6.1.2).
+    /// An OPT record stands outside the additional section, is a second one, or has an owner other than the root (RFC
+    /// 6891 6.1.1, 6.1.2).
     #[error("an OPT record is out of place")]
     Opt,
 }
@@ -67,8 +68,8 @@ pub struct Message {
     pub additional: List<Rr>,
 }
 
-/// A message and the number of bytes of the payload that it takes. No section goes on behind them, but a run of labels that a pointer
-/// leads to may reach into the bytes behind them.
+/// A message and the number of bytes of the payload that it takes. No section goes on after them, but a run of labels
+/// that a pointer leads to may reach into the bytes after them.
 #[derive(Debug, Drop)]
 pub struct Parsed {
     pub message: Message,

@@ -14,11 +14,11 @@ use crate::writing::{WriteFault, Writing};
 use cd_name::Blob;
 use std::alloc::{AllocError, Global};
 
-/// The greatest number of entries of a section: their number has two bytes (RFC 1035 4.1.1).
+// The greatest number of entries of a section: their number has two bytes (RFC 1035 4.1.1).
 const MAX_ENTRIES: usize = 65535;
 
 impl Writing {
-    /// Appends a question.
+    // Appends a question.
     fn put_question(&mut self, question: &Question) -> Result<(), WriteFault>
         ensures puts { Puts (question_piece question.now) self.old self.new result }
         ensures fits { QuestionNumbersFit question.now }
@@ -29,7 +29,7 @@ impl Writing {
         self.put_bytes(&question_numbers(rtype, rclass))
     }
 
-    /// Appends a record.
+    // Appends a record.
     fn put_record(&mut self, record: &Rr) -> Result<(), WriteFault>
         ensures puts { Puts (record_piece «record».now) self.old self.new result }
         ensures fits { RecordNumbersFit «record».now }
@@ -42,7 +42,7 @@ impl Writing {
         self.put_rdata_with_length(rtype, record.rdata.as_slice())
     }
 
-    /// Appends questions.
+    // Appends questions.
     fn put_questions(&mut self, questions: &[Question]) -> Result<(), WriteFault>
         requires { length self.old.bytes ≤ 65535 }
         ensures puts { Puts (each_in_turn question_piece questions.now) self.old self.new result }
@@ -54,7 +54,7 @@ impl Writing {
         Ok(())
     }
 
-    /// Appends the records of a section.
+    // Appends the records of a section.
     fn put_records(&mut self, records: &[Rr]) -> Result<(), WriteFault>
         requires { length self.old.bytes ≤ 65535 }
         ensures puts { Puts (each_in_turn record_piece records.now) self.old self.new result }
@@ -66,7 +66,7 @@ impl Writing {
         Ok(())
     }
 
-    /// Appends a header.
+    // Appends a header.
     fn put_header(&mut self, message: &Message) -> Result<(), WriteFault>
         requires { FewEntries message.now }
         ensures puts { Puts (bytes_piece (header_of message.now)) self.old self.new result }
@@ -96,7 +96,7 @@ impl Writing {
         ])
     }
 
-    /// Appends a message.
+    // Appends a message.
     fn put_message(&mut self, message: &Message) -> Result<(), WriteFault>
         requires { FewEntries message.now }
         ensures puts { Puts (message_piece message.now) self.old self.new result }
@@ -110,7 +110,7 @@ impl Writing {
     }
 }
 
-/// The type and class of a question.
+// The type and class of a question.
 fn question_numbers(rtype: u16, rclass: u16) -> [u8; 4]
     ensures { result ≡ to_be_bytes w16 rtype ++ to_be_bytes w16 rclass }
 {
@@ -119,7 +119,7 @@ fn question_numbers(rtype: u16, rclass: u16) -> [u8; 4]
     [type_high, type_low, class_high, class_low]
 }
 
-/// The type, class and TTL of a record.
+// The type, class and TTL of a record.
 fn record_numbers(rtype: u16, rclass: u16, ttl: u32) -> [u8; 8]
     ensures { result ≡ to_be_bytes w16 rtype ++ to_be_bytes w16 rclass ++ to_be_bytes w32 ttl }
 {
@@ -128,7 +128,7 @@ fn record_numbers(rtype: u16, rclass: u16, ttl: u32) -> [u8; 8]
     [a, b, c, d, e, f, g, h]
 }
 
-/// The number of some items in two bytes.
+// The number of some items in two bytes.
 fn count_bytes<T>(items: &[T]) -> [u8; 2]
     requires { length items.now ≤ 65535 }
     ensures { result ≡ to_be_bytes w16 (length items.now) }
@@ -136,7 +136,7 @@ fn count_bytes<T>(items: &[T]) -> [u8; 2]
     (items.len() as u16).to_be_bytes()
 }
 
-/// Whether each section has at most 65,535 entries.
+// Whether each section has at most 65,535 entries.
 fn has_small_sections(message: &Message) -> bool
     ensures { result ≡ Written.has_small_sections message.now }
 {
@@ -146,14 +146,15 @@ fn has_small_sections(message: &Message) -> bool
         && message.additional.as_slice().len() <= MAX_ENTRIES
 }
 
-/// Writes a message (RFC 1035 4.1): a header with the counts of its sections, and the sections. A name is written as the labels before
-/// the longest of its suffixes that was written before, and a pointer to that (RFC 1035 4.1.4); names in RDATA take part where RFC 1035
-/// defines the type and the RDATA fills its shape (RFC 3597 section 4). `None` where a section has more than 65,535 entries or the message
-/// more than 65,535 bytes. What is written for a valid message is read by `parse` as the message, to its last byte. The only error is want
-/// of memory.
+/// Writes a message (RFC 1035 4.1): a header with the counts of its sections, and the sections. A name is written as
+/// the labels before the longest of its suffixes that was written before, and a pointer to that (RFC 1035 4.1.4);
+/// names in RDATA take part where RFC 1035 defines the type and the RDATA fills its shape (RFC 3597 section 4).
+/// `None` where a section has more than 65,535 entries or the message more than 65,535 bytes. What is written for a
+/// valid message is read by `parse` as the message, to its last byte. The only error is want of memory.
 pub fn write(alloc: Global, message: &Message) -> Result<Option<Blob>, AllocError>
     ensures exact { IfOk result (λ w. w ≡ written_if_fits message.now) }
-    ensures read { Valid message.now → IfOk result (λ w. IfSome w (λ bytes. Spells bytes message.now (length bytes))) }
+    ensures read { Valid message.now →
+        IfOk result (λ w. IfSome w (λ bytes. Spells bytes message.now (length bytes))) }
 {
     if !has_small_sections(message) {
         return Ok(None);

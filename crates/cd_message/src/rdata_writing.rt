@@ -13,15 +13,15 @@ use crate::shape::{Shape, shape_of};
 use crate::writing::{WriteFault, Writing};
 use cd_name::name_size;
 
-/// RDATA in its parts: bytes, names without pointers and bytes.
+// RDATA in its parts: bytes, names without pointers and bytes.
 #[derive(Clone, Copy)]
 pub struct Parts<'a> {
     pub before: &'a [u8],
     pub names: &'a [u8],
-    pub behind: &'a [u8],
+    pub after: &'a [u8],
 }
 
-/// The number of bytes of so many names without pointers, one behind the other, that some bytes begin with.
+// The number of bytes of so many names without pointers, one after the other, that some bytes begin with.
 fn names_size(bytes: &[u8], count: usize) -> Option<usize>
     ensures { AreNamesInFront count bytes.now result }
 {
@@ -35,7 +35,7 @@ fn names_size(bytes: &[u8], count: usize) -> Option<usize>
     Some(end)
 }
 
-/// The parts of RDATA that fills a shape.
+// The parts of RDATA that fills a shape.
 fn parts_of_shape<'a>(shape: Shape, rdata: &'a [u8]) -> Option<Parts<'a>>
     ensures { ArePartsOf (Written.parts_of_shape shape rdata.now) result }
 {
@@ -44,17 +44,17 @@ fn parts_of_shape<'a>(shape: Shape, rdata: &'a [u8]) -> Option<Parts<'a>>
     }
     let rest = &rdata[shape.before..];
     let size = names_size(rest, shape.names)?;
-    if rest.len() - size != shape.behind {
+    if rest.len() - size != shape.after {
         return None;
     }
     Some(Parts {
         before: &rdata[..shape.before],
         names: &rest[..size],
-        behind: &rest[size..],
+        after: &rest[size..],
     })
 }
 
-/// The parts of RDATA of a type, if it fills a shape whose names are compressed.
+// The parts of RDATA of a type, if it fills a shape whose names are compressed.
 fn compressed_parts<'a>(rtype: u16, rdata: &'a [u8]) -> Option<Parts<'a>>
     ensures { ArePartsOf (Written.compressed_parts (Shapes.shape_of rtype) rdata.now) result }
 {
@@ -71,21 +71,22 @@ fn compressed_parts<'a>(rtype: u16, rdata: &'a [u8]) -> Option<Parts<'a>>
 }
 
 impl Writing {
-    /// Appends names that stand one behind the other without pointers.
+    // Appends names that stand one after the other without pointers.
     fn put_names(&mut self, names: &[u8]) -> Result<(), WriteFault>
         requires { length self.old.bytes ≤ 65535 }
-        ensures { (list : List (List ℕ)) → All IsName list → names.now ≡ concat list → Puts (each_in_turn name_piece list) self.old self.new result }
+        ensures { (list : List (List ℕ)) → All IsName list → names.now ≡ concat list →
+            Puts (each_in_turn name_piece list) self.old self.new result }
     {
         let mut rest = names;
         'names: while let Some(size) = name_size(rest) {
-            let (name, behind) = rest.split_at(size);
+            let (name, after) = rest.split_at(size);
             self.put_name(name)?;
-            rest = behind;
+            rest = after;
         }
         Ok(())
     }
 
-    /// Appends the RDATA of a type.
+    // Appends the RDATA of a type.
     fn put_rdata(&mut self, rtype: u16, rdata: &[u8]) -> Result<(), WriteFault>
         ensures { Puts (rdata_piece rtype rdata.now) self.old self.new result }
     {
@@ -93,13 +94,13 @@ impl Writing {
             Some(parts) => {
                 self.put_bytes(parts.before)?;
                 self.put_names(parts.names)?;
-                self.put_bytes(parts.behind)
+                self.put_bytes(parts.after)
             }
             None => self.put_bytes(rdata),
         }
     }
 
-    /// Appends the RDATA of a type behind its length.
+    // Appends the RDATA of a type after its length.
     pub(crate) fn put_rdata_with_length(
         &mut self,
         rtype: u16,

@@ -1,30 +1,30 @@
 ghost use Rattle.std.specs.Prelude.{◌≡◌};
 ghost use Rattle.cd_message.specs.Shapes;
 
-/// What RDATA holds: so many bytes, then so many names, then so many bytes.
+// What RDATA holds: so many bytes, then so many names, then so many bytes.
 #[derive(Clone, Copy)]
 pub struct Shape {
     pub before: usize,
     pub names: usize,
-    pub behind: usize,
-    /// Whether the names are compressed where a message is written (RFC 3597 section 4).
+    pub after: usize,
+    // Whether the names are compressed where a message is written (RFC 3597 section 4).
     pub compressed: bool,
 }
 
 impl Shape {
-    fn new(before: usize, names: usize, behind: usize, compressed: bool) -> Shape
-        ensures { Some result ≡ Shapes.shape before names behind compressed }
+    fn new(before: usize, names: usize, after: usize, compressed: bool) -> Shape
+        ensures { Some result ≡ Shapes.shape before names after compressed }
     {
         Shape {
             before,
             names,
-            behind,
+            after,
             compressed,
         }
     }
 }
 
-/// The shape of the RDATA of a type, if it holds names.
+// The shape of the RDATA of a type, if it holds names.
 #[tactic(auto, unfolding(crate::specs::Shapes::shape_of))]
 pub fn shape_of(rtype: u16) -> Option<Shape>
     ensures { result ≡ Shapes.shape_of rtype }

@@ -7,7 +7,7 @@ ghost use Rattle.cd_message.specs.Weights.{question_weight, record_weight, weigh
 
 use crate::message::{Message, Question, Rr};
 
-/// The weight of some questions.
+// The weight of some questions.
 fn questions_weight(questions: &[Question]) -> u64
     requires { length questions.now ≤ 65535 }
     ensures exact { result ≡ sum_by question_weight questions.now }
@@ -20,7 +20,7 @@ fn questions_weight(questions: &[Question]) -> u64
     total
 }
 
-/// The weight of some records.
+// The weight of some records.
 fn records_weight(records: &[Rr]) -> u64
     requires few { length records.now ≤ 65535 }
     requires valid { All ValidRecord records.now }
@@ -36,8 +36,8 @@ fn records_weight(records: &[Rr]) -> u64
     total
 }
 
-/// What a message weighs, where messages are held back: 256, for each question 48 and its name, and for each record 64, its owner
-/// and its RDATA, in bytes.
+/// What a message weighs, where messages are held back: 256, for each question 48 and its name, and for each record
+/// 64, its owner and its RDATA, in bytes.
 pub fn weight(message: &Message) -> u64
     requires { Valid message.now }
     ensures { result ≡ weight_of message.now }

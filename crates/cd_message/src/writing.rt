@@ -9,18 +9,18 @@ ghost use Rattle.cd_message.specs.Putting.{Puts};
 use cd_name::{Blob, NameWriter};
 use std::alloc::{AllocError, Global};
 
-/// The greatest number of bytes of a message: its length has two bytes before it where it goes over TCP (RFC 1035 4.2.2).
+// The most bytes of a message: over TCP its length stands before it in two bytes (RFC 1035 4.2.2).
 pub(crate) const MAX_MESSAGE: usize = 65535;
 
-/// Why a message was not written.
+// Why a message was not written.
 #[derive(Clone, Copy)]
 pub enum WriteFault {
-    /// It has more than 65,535 bytes.
+    // It has more than 65,535 bytes.
     TooLong,
     NoMemory,
 }
 
-/// The bytes of a message as far as it is written, and the names in them.
+// The bytes of a message as far as it is written, and the names in them.
 #[derive(Drop)]
 pub struct Writing {
     pub bytes: Blob,
@@ -38,7 +38,7 @@ impl Writing {
         }
     }
 
-    /// Appends bytes.
+    // Appends bytes.
     pub(crate) fn put_bytes(&mut self, bytes: &[u8]) -> Result<(), WriteFault>
         ensures { Puts (bytes_piece bytes.now) self.old self.new result }
     {
@@ -52,7 +52,7 @@ impl Writing {
         }
     }
 
-    /// Appends a name.
+    // Appends a name.
     pub(crate) fn put_name(&mut self, name: &[u8]) -> Result<(), WriteFault>
         requires { IsName name.now }
         ensures { Puts (name_piece name.now) self.old self.new result }

@@ -6,18 +6,18 @@ use Rattle.std.proofs.Math.Seq.{drop-append_seam}
 use Rattle.cd_name.proofs.Bytes.{drop-byte, take-label, drop-label}
 use Rattle.cd_name.specs.Names.{are_labels_and_root, IsName}
 
--- these bytes are labels: whatever comes behind decides
+-- these bytes are labels: whatever comes after decides
 abbrev pub AreLabels : List ℕ → Type 0
 AreLabels labels = (more : List ℕ) → are_labels_and_root 0 (labels ++ more) ≡ are_labels_and_root 0 more
 
--- behind the rest of a label the test goes on
+-- after the rest of a label the test goes on
 pub labels-inside : (inside : ℕ) (bytes : List ℕ) → inside ≤ length bytes → are_labels_and_root inside bytes ≡ are_labels_and_root 0 (drop inside bytes)
 unfolding are_labels_and_root
 labels-inside zero bytes h = refl
 labels-inside (suc k) [] h = absurd (omega arith)
 labels-inside (suc k) (b ∷ bytes) h = labels-inside k bytes (omega arith)
 
--- a label with bytes missing, or nothing behind it
+-- a label with bytes missing, or nothing after it
 pub labels-short : (inside : ℕ) (bytes : List ℕ) → length bytes ≤ inside → are_labels_and_root inside bytes ≡ false
 unfolding are_labels_and_root
 labels-short zero [] h = refl
@@ -30,7 +30,7 @@ pub labels-root : (n : ℕ) (bytes : List ℕ) → n ≡ 0 → length bytes ≡ 
 unfolding are_labels_and_root
 labels-root n bytes h k = rw (eq-eqb n 0 h) (eq-eqb (length bytes) 0 k)
 
--- bytes behind the root
+-- bytes after the root
 pub labels-early_root : (n : ℕ) (bytes : List ℕ) → n ≡ 0 → 0 < length bytes → are_labels_and_root 0 (n ∷ bytes) ≡ false
 unfolding are_labels_and_root
 labels-early_root n bytes h k = rw (eq-eqb n 0 h) (ne_eqb (length bytes) 0 (λ e. omega arith))

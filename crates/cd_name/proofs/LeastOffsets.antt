@@ -8,12 +8,12 @@ use Rattle.std.proofs.lemmas.Slice.Eq.{bytes_eq-Decides}
 use Rattle.std.proofs.lemmas.List.Elements.{All-head, All-tail, Contains-append_right, Contains-append_cases, Contains-push_cases}
 use Rattle.cd_name.specs.WrittenNames.{Suffix, least_offset, StandsAt, IsLeastOffset}
 
--- what stands is the first or stands behind it
-pub first_or_behind : (s : Suffix) (others : List Suffix) (x : Suffix) → Contains (s ∷ others) x → (s ≡ x) ⊎ Contains others x
-first_or_behind s others x h =
+-- what stands is the first or stands after it
+pub first_or_after : (s : Suffix) (others : List Suffix) (x : Suffix) → Contains (s ∷ others) x → (s ≡ x) ⊎ Contains others x
+first_or_after s others x h =
     elim (Contains-append_cases (s ∷ []) others x h) [
       | inl one ↦ elim (Contains-push_cases [] s x one) [ inl none ↦ absurd (omega (arith, none.1)) | inr e ↦ inl e ]
-      | inr behind ↦ inr behind
+      | inr after ↦ inr after
     ]
 
 -- the first one stands
@@ -35,14 +35,14 @@ stands_first s others name offset e same =
 offset_of_first : (s : Suffix) (name : List ℕ) (offset : ℕ) → s ≡ record { name = name; offset = offset } → s.offset ≡ offset
 offset_of_first s name offset e = ap (λ (x : Suffix). x.offset) e
 
--- where the first suffix is this one, the least offset is the lower one of its own and that behind it
+-- where the first suffix is this one, the least offset is the lower one of its own and that after it
 least_with_first : (s : Suffix) (others : List Suffix) (name : List ℕ) (found : Option ℕ) → name ≡ s.name → IsLeast others name found →
     IsLeast (s ∷ others) name (Some (option_map_or (min s.offset) found s.offset))
 least_with_first s others name None e least = record {
   stands = stands_first s others name s.offset e refl;
-  is_least = λ other h. elim (first_or_behind s others (record { name = name; offset = other }) h) [
+  is_least = λ other h. elim (first_or_after s others (record { name = name; offset = other }) h) [
     | inl same ↦ omega (arith, offset_of_first s name other same)
-    | inr behind ↦ absurd (least other behind)
+    | inr after ↦ absurd (least other after)
   ];
 }
 least_with_first s others name (Some o) e least = record {
@@ -53,26 +53,26 @@ least_with_first s others name (Some o) e least = record {
         let P : ℕ → Type 0 = λ k. StandsAt (s ∷ others) name k in
         subst P is (Contains-append_right (s ∷ []) others (record { name = name; offset = o }) least.stands)
   ];
-  is_least = λ other h. elim (first_or_behind s others (record { name = name; offset = other }) h) [
+  is_least = λ other h. elim (first_or_after s others (record { name = name; offset = other }) h) [
     | inl same ↦ omega (arith, offset_of_first s name other same)
-    | inr behind ↦ omega (arith, least.is_least other behind)
+    | inr after ↦ omega (arith, least.is_least other after)
   ];
 }
 
--- a suffix that is not the first stands behind it
-behind_other : (s : Suffix) (others : List Suffix) (name : List ℕ) (offset : ℕ) → (name ≡ s.name → ⊥) → StandsAt (s ∷ others) name offset → StandsAt others name offset
-behind_other s others name offset other h =
-    elim (first_or_behind s others (record { name = name; offset = offset }) h) [
+-- a suffix that is not the first stands after it
+after_other : (s : Suffix) (others : List Suffix) (name : List ℕ) (offset : ℕ) → (name ≡ s.name → ⊥) → StandsAt (s ∷ others) name offset → StandsAt others name offset
+after_other s others name offset other h =
+    elim (first_or_after s others (record { name = name; offset = offset }) h) [
       | inl same ↦ absurd (other (sym (ap (λ (x : Suffix). x.name) same)))
-      | inr behind ↦ behind
+      | inr after ↦ after
     ]
 
--- where the first suffix is another one, the least offset is that behind it
+-- where the first suffix is another one, the least offset is that after it
 least_without_first : (s : Suffix) (others : List Suffix) (name : List ℕ) (found : Option ℕ) → (name ≡ s.name → ⊥) → IsLeast others name found → IsLeast (s ∷ others) name found
-least_without_first s others name None other least = λ offset h. least offset (behind_other s others name offset other h)
+least_without_first s others name None other least = λ offset h. least offset (after_other s others name offset other h)
 least_without_first s others name (Some o) other least = record {
   stands = Contains-append_right (s ∷ []) others (record { name = name; offset = o }) least.stands;
-  is_least = λ offset h. least.is_least offset (behind_other s others name offset other h);
+  is_least = λ offset h. least.is_least offset (after_other s others name offset other h);
 }
 
 -- the least offset is the least, or the suffix does not stand
@@ -95,11 +95,11 @@ unfolding least_offset
 least_offset-none [] name is_none = refl
 least_offset-none (s ∷ others) name is_none = rw is_none.0 (least_offset-none others name is_none.1)
 
--- they change nothing for it behind others
-pub least_offset-behind : (standing suffixes : List Suffix) (name : List ℕ) → IsNoneOf name suffixes → least_offset (standing ++ suffixes) name ≡ least_offset standing name
+-- they change nothing for it after others
+pub least_offset-after : (standing suffixes : List Suffix) (name : List ℕ) → IsNoneOf name suffixes → least_offset (standing ++ suffixes) name ≡ least_offset standing name
 unfolding least_offset
-least_offset-behind [] suffixes name is_none = least_offset-none suffixes name is_none
-least_offset-behind (s ∷ others) suffixes name is_none = rw (least_offset-behind others suffixes name is_none) refl
+least_offset-after [] suffixes name is_none = least_offset-none suffixes name is_none
+least_offset-after (s ∷ others) suffixes name is_none = rw (least_offset-after others suffixes name is_none) refl
 
 -- a name is none of the suffixes that are longer
 pub longer_are_others : (suffixes : List Suffix) (name : List ℕ) → All (λ (s : Suffix). length name < length s.name) suffixes → IsNoneOf name suffixes

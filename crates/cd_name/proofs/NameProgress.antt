@@ -7,11 +7,11 @@ use Rattle.std.proofs.lemmas.List.Elements.{All-nil, All-append, All-weaker, All
 use Rattle.cd_name.specs.Names.{are_labels_and_root, IsName}
 use Rattle.cd_name.specs.WrittenNames.{Suffix, Written, Writes, least_offset, pointer_to, suffix_at, only_bytes, name_from, name_piece}
 use Rattle.cd_name.proofs.Bytes.{drop-byte, take-label}
-use Rattle.cd_name.proofs.LeastOffsets.{least_offset-behind, longer_are_others}
+use Rattle.cd_name.proofs.LeastOffsets.{least_offset-after, longer_are_others}
 use Rattle.cd_name.proofs.WrittenSteps.{suffix_at_only, written_before, written_before-twice, name_from-root, name_from-standing, name_from-label_of}
 use Rattle.cd_name.proofs.Labels.{labels-label, labels-long, labels-short, labels-early_root, labels-label_at, labels-none_at}
 
--- How far a name is written behind some bytes in which suffixes stand: up to an offset in it.
+-- How far a name is written after some bytes in which suffixes stand: up to an offset in it.
 pub record Progress (standing : List Suffix) (front name : List ℕ) (here : ℕ) (message : List ℕ) (known : List Suffix) : Type 0 where
   pub bytes : List ℕ
   pub suffixes : List Suffix
@@ -34,7 +34,7 @@ progress_start standing front name is =
       longer = All-nil (λ (s : Suffix). length (drop 0 name) < length s.name);
     }
 
--- the bytes of a label are there, and more behind them
+-- the bytes of a label are there, and more after them
 pub label_is_there : (name : List ℕ) (here n : ℕ) → are_labels_and_root 0 (drop here name) ≡ true → here < length name → get_or name here 0 ≡ n → 0 < n → (n ≤ 63) × (here + n + 1 < length name)
 label_is_there name here n labels lt e h =
     let head : drop here name ≡ n ∷ drop (here + 1) name = drop-byte name here n e lt in
@@ -52,7 +52,7 @@ label_is_there name here n labels lt e h =
 rest_stood : {standing known : List Suffix} {front name message : List ℕ} {here : ℕ} → (g : Progress standing front name here message known) →
     least_offset known (drop here name) ≡ least_offset standing (drop here name)
 rest_stood {standing} {known} {front} {name} {message} {here} g =
-    ap (λ k. least_offset k (drop here name)) g.known_is ∙ least_offset-behind standing g.suffixes (drop here name) (longer_are_others g.suffixes (drop here name) g.longer)
+    ap (λ k. least_offset k (drop here name)) g.known_is ∙ least_offset-after standing g.suffixes (drop here name) (longer_are_others g.suffixes (drop here name) g.longer)
 
 -- what is written of the rest of a name without suffixes ends the name
 ends : {standing known : List Suffix} {front name message : List ℕ} {here : ℕ} → (g : Progress standing front name here message known) (new rest : List ℕ) →
@@ -88,13 +88,13 @@ ends_with_pointer {standing} {known} {front} {name} {message} {here} g new n off
 longer_later : (a b : ℕ) (suffixes : List Suffix) → b ≤ a → All (λ (s : Suffix). a < length s.name) suffixes → All (λ (s : Suffix). b < length s.name) suffixes
 longer_later a b suffixes le longer = λ k d lt. let h = longer k d lt in omega arith
 
--- a suffix at an offset is longer than a rest behind it
+-- a suffix at an offset is longer than a rest after it
 suffix_is_longer : (b : ℕ) (name : List ℕ) (at : ℕ) → b < length name → All (λ (s : Suffix). b < length s.name) (suffix_at name at)
 suffix_is_longer b name at lt =
     All-weaker (Contains (suffix_at name at)) (λ (s : Suffix). b < length s.name) (λ s h. omega (arith, ap length (suffix_at_only s name at h).0)) (suffix_at name at)
     (All-contains_itself (suffix_at name at))
 
--- a name that is written up to a label, and then the label, is written up to the bytes behind it
+-- a name that is written up to a label, and then the label, is written up to the bytes after it
 label_written : (standing : List Suffix) (at later : ℕ) (whole : Written) (bytes : List ℕ) (suffixes : List Suffix) (rest first l more : List ℕ) →
     whole ≡ written_before bytes suffixes (name_from standing at 0 rest) → rest ≡ first ++ more → first ≡ length l ∷ l → 0 < length l → least_offset standing rest ≡ None →
     at + length first ≡ later → whole ≡ written_before (bytes ++ first) (suffixes ++ suffix_at rest at) (name_from standing later 0 more)

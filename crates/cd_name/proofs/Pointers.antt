@@ -1,4 +1,4 @@
--- Labels, and a pointer behind them.
+-- Labels, and a pointer after them.
 use Rattle.std.proofs.Common.{◌≡◌, ℕ, ◌+◌, ◌-◌, ◌*◌, ◌<◌, ◌≤◌, List, [], ◌∷◌, ◌++◌, length, take, drop, get_or, ap, sym, ◌∙◌, arith, append_assoc, length-append, subst, add-zero}
 use Rattle.std.proofs.lemmas.List.{get_or-append-add}
 use Rattle.std.proofs.Math.Seq.{drop-append_seam, take-append_seam}
@@ -7,22 +7,22 @@ use Rattle.cd_name.specs.Rules.{ReadsName, label, pointer}
 use Rattle.cd_name.proofs.Rules.{read_by_rules}
 
 -- one label
-label_is_read : (l front behind name : List ℕ) (start next : ℕ) → 0 < length l → length l ≤ 63 →
-    ReadsName (front ++ ((length l ∷ l) ++ behind)) start (length front + length (length l ∷ l)) name next →
-    ReadsName (front ++ ((length l ∷ l) ++ behind)) start (length front) ((length l ∷ l) ++ name) next
-label_is_read l front behind name start next some few deeper =
-    let p : List ℕ = front ++ ((length l ∷ l) ++ behind) in
-    let here : drop (length front) p ≡ (length l ∷ l) ++ behind = drop-append_seam front ((length l ∷ l) ++ behind) in
+label_is_read : (l front after name : List ℕ) (start next : ℕ) → 0 < length l → length l ≤ 63 →
+    ReadsName (front ++ ((length l ∷ l) ++ after)) start (length front + length (length l ∷ l)) name next →
+    ReadsName (front ++ ((length l ∷ l) ++ after)) start (length front) ((length l ∷ l) ++ name) next
+label_is_read l front after name start next some few deeper =
+    let p : List ℕ = front ++ ((length l ∷ l) ++ after) in
+    let here : drop (length front) p ≡ (length l ∷ l) ++ after = drop-append_seam front ((length l ∷ l) ++ after) in
     let size : length (length l ∷ l) ≡ length l + 1 = omega arith in
     let cut : take (length l + 1) (drop (length front) p) ≡ length l ∷ l =
-    ap (λ t. take (length l + 1) t) here ∙ ap (λ k. take k ((length l ∷ l) ++ behind)) (sym size) ∙ take-append_seam (length l ∷ l) behind in
-    let head : get_or p (length front) 0 ≡ length l = ap (λ k. get_or p k 0) (sym (add-zero (length front))) ∙ get_or-append-add front ((length l ∷ l) ++ behind) 0 0 in
-    let there : length front + length l < length p = omega (arith, length-append front ((length l ∷ l) ++ behind), length-append (length l ∷ l) behind) in
+    ap (λ t. take (length l + 1) t) here ∙ ap (λ k. take k ((length l ∷ l) ++ after)) (sym size) ∙ take-append_seam (length l ∷ l) after in
+    let head : get_or p (length front) 0 ≡ length l = ap (λ k. get_or p k 0) (sym (add-zero (length front))) ∙ get_or-append-add front ((length l ∷ l) ++ after) 0 0 in
+    let there : length front + length l < length p = omega (arith, length-append front ((length l ∷ l) ++ after), length-append (length l ∷ l) after) in
     let place : length front + length (length l ∷ l) ≡ length front + (length l + 1) = omega arith in
     subst (λ t. ReadsName p start (length front) (t ++ name) next) cut
     (label start (length front) (length l) name next (head, some, few, there) (subst (λ k. ReadsName p start k name next) place deeper))
 
--- labels are read before what is read behind them
+-- labels are read before what is read after them
 pub labels_are_read : LabelsAreRead
 labels_are_read [] front more name start next are r = subst (λ k. ReadsName (front ++ more) start k name next) (add-zero (length front)) r
 labels_are_read (l ∷ ls) front more name start next are r =

@@ -2,7 +2,7 @@
 use Rattle.std.proofs.Common.{◌≡◌, ℕ, zero, suc, ◌+◌, ◌-◌, ◌*◌, ◌<◌, ◌≤◌, List, [], ◌∷◌, ◌++◌, length, take, drop, get_or, refl, ap, sym, ◌∙◌, arith, append_assoc, length-append, subst, inl, inr, ◌⊎◌, Some, None, Result, Ok, Err}
 use Rattle.std.proofs.lemmas.Bool.{le-ltb, lt-ltb, cases_eq, cases_lt}
 use Rattle.cd_name.specs.Names.{NameReading, reading_at, break_reading, label_then_reading, pointer_then_reading, name_at, name_of_reading, NameAt, NameBroken}
-use Rattle.cd_name.specs.Rules.{LabelAt, PointerAt, ReadsName, root, label, pointer, BreaksName, no_byte, reserved_type, part_of_label, part_of_pointer, forward_pointer, long_name, behind_label, behind_pointer, ReadByRules, BrokenByRules}
+use Rattle.cd_name.specs.Rules.{LabelAt, PointerAt, ReadsName, root, label, pointer, BreaksName, no_byte, reserved_type, part_of_label, part_of_pointer, forward_pointer, long_name, after_label, after_pointer, ReadByRules, BrokenByRules}
 use Rattle.cd_name.specs.declared.fault.NameWhy.{NameWhy}
 use Rattle.cd_name.specs.declared.fault.NameWhy.TheVariants.{Short, Label, Pointer, LongName}
 use Rattle.cd_name.proofs.Bytes.{length-label}
@@ -28,7 +28,7 @@ reading_of_rules {p} (pointer s at t labels next h k deeper) =
     let d = reading_of_rules deeper in
     record { labels = d.labels; name_is = d.name_is; reads = reading-back p s at (get_or p at 0) t refl h.0 h.1 h.2 k ∙ ap (λ r. pointer_then_reading (at + 2) r) d.reads }
 
--- the first rule broken, behind so many bytes of labels
+-- the first rule broken, after so many bytes of labels
 abbrev FirstBroken : ℕ → NameReading → NameWhy → Type 0
 FirstBroken size r why = ((254 < size + length r.labels) × (why ≡ LongName)) ⊎ ((size + length r.labels ≤ 254) × (r.fault ≡ Some why))
 
@@ -36,10 +36,10 @@ FirstBroken size r why = ((254 < size + length r.labels) × (why ≡ LongName)) 
 first_at_once : (size : ℕ) (r : NameReading) (next : ℕ) (why : NameWhy) → size ≤ 254 → r ≡ break_reading next why → FirstBroken size r why
 first_at_once size r next why h e = subst (λ x. FirstBroken size x why) (sym e) (inr (omega arith, refl))
 
--- a rule that is broken behind a label
-first_behind_label : (size n : ℕ) (l : List ℕ) (r : NameReading) (why : NameWhy) → length l ≡ n → FirstBroken (size + n) r why → FirstBroken size (label_then_reading l r) why
-first_behind_label size n l r why e (inl f) = inl (omega (arith, length-append l r.labels, f.0), f.1)
-first_behind_label size n l r why e (inr f) = inr (omega (arith, length-append l r.labels, f.0), f.1)
+-- a rule that is broken after a label
+first_after_label : (size n : ℕ) (l : List ℕ) (r : NameReading) (why : NameWhy) → length l ≡ n → FirstBroken (size + n) r why → FirstBroken size (label_then_reading l r) why
+first_after_label size n l r why e (inl f) = inl (omega (arith, length-append l r.labels, f.0), f.1)
+first_after_label size n l r why e (inr f) = inr (omega (arith, length-append l r.labels, f.0), f.1)
 
 -- what the rules say is broken first is so in the reading
 first_of_rules : {p : List ℕ} {s at size : ℕ} {why : NameWhy} → BreaksName p s at size why → size ≤ 254 → FirstBroken size (reading_at p s at) why
@@ -52,11 +52,11 @@ first_of_rules {p} (long_name s at n size h k) small =
     let l = take (n + 1) (drop at p) in
     subst (λ r. FirstBroken size r LongName) (sym (reading-label p s at n h.0 h.1 h.2 h.3))
     (inl (omega (arith, length-append l (reading_at p s (at + (n + 1))).labels, length-label p at n h.3), refl))
-first_of_rules {p} (behind_label s at n size why h k deeper) small =
+first_of_rules {p} (after_label s at n size why h k deeper) small =
     let l = take (n + 1) (drop at p) in
     subst (λ r. FirstBroken size r why) (sym (reading-label p s at n h.0 h.1 h.2 h.3))
-    (first_behind_label size (n + 1) l (reading_at p s (at + (n + 1))) why (length-label p at n h.3) (first_of_rules deeper (omega arith)))
-first_of_rules {p} (behind_pointer s at t size why h k deeper) small =
+    (first_after_label size (n + 1) l (reading_at p s (at + (n + 1))) why (length-label p at n h.3) (first_of_rules deeper (omega arith)))
+first_of_rules {p} (after_pointer s at t size why h k deeper) small =
     subst (λ r. FirstBroken size r why) (sym (reading-back p s at (get_or p at 0) t refl h.0 h.1 h.2 k)) (first_of_rules deeper small)
 
 -- one of the two holds
@@ -67,12 +67,12 @@ HasAnswer p s at size = ((name : List ℕ) × (next : ℕ) × ReadsName p s at n
 answer_with_label : (p : List ℕ) (s at n size : ℕ) → LabelAt p at n → size + (n + 1) + 1 ≤ 255 → HasAnswer p s (at + (n + 1)) (size + (n + 1)) → HasAnswer p s at size
 answer_with_label p s at n size h k (inl d) =
     inl (take (n + 1) (drop at p) ++ d.0, d.1, label s at n d.0 d.1 h d.2, omega (arith, length-append (take (n + 1) (drop at p)) d.0, length-label p at n h.3, d.3))
-answer_with_label p s at n size h k (inr d) = inr (d.0, behind_label s at n size d.0 h k d.1)
+answer_with_label p s at n size h k (inr d) = inr (d.0, after_label s at n size d.0 h k d.1)
 
 -- an answer, with a pointer to it
 answer_with_pointer : (p : List ℕ) (s at t size : ℕ) → PointerAt p at t → t < s → HasAnswer p t t size → HasAnswer p s at size
 answer_with_pointer p s at t size h k (inl d) = inl (d.0, at + 2, pointer s at t d.0 d.1 h k d.2, d.3)
-answer_with_pointer p s at t size h k (inr d) = inr (d.0, behind_pointer s at t size d.0 h k d.1)
+answer_with_pointer p s at t size h k (inr d) = inr (d.0, after_pointer s at t size d.0 h k d.1)
 
 -- an answer, if there is one at each smaller start and at each later offset
 answer_at : (p : List ℕ) (s at size : ℕ) → size ≤ 254 → ((t : ℕ) → t < s → HasAnswer p t t size) →

@@ -4,7 +4,7 @@ use Rattle.std.proofs.lemmas.Bool.{le-ltb, lt-ltb, eq-eqb, ne_eqb}
 use Rattle.cd_name.specs.Names.{Root, Target, Break, run_of_end, label_then_run, label_run}
 use Rattle.cd_name.specs.declared.fault.NameWhy.TheVariants.{Short, Label}
 
--- behind the rest of a label the run goes on
+-- after the rest of a label the run goes on
 run-inside : (inside : ℕ) (bytes : List ℕ) → inside ≤ length bytes → label_run inside bytes ≡ label_run 0 (drop inside bytes)
 unfolding label_run
 run-inside zero bytes h = refl

@@ -7,14 +7,14 @@ use Rattle.cd_name.specs.Names.{are_labels_and_root}
 use Rattle.cd_name.specs.NameLaws.{IsLabel, label_bytes, NamesAreLabels}
 use Rattle.cd_name.proofs.Labels.{AreLabels, no_labels, labels_with_label, labels-root, labels-early_root, labels-long, labels-label}
 
--- behind the rest of a label, bytes are labels and the root
+-- after the rest of a label, bytes are labels and the root
 record AreSpelled (inside : ℕ) (bytes : List ℕ) : Type 0 where
   within : inside < length bytes
   labels : List (List ℕ)
   are_labels : AllByRecursion IsLabel labels
   spelled : drop inside bytes ≡ label_bytes labels ++ 0 ∷ []
 
--- a label, and labels and the root behind it
+-- a label, and labels and the root after it
 label_first : (n : ℕ) (bytes : List ℕ) → 0 < n → n ≤ 63 → AreSpelled n bytes → AreSpelled 0 (n ∷ bytes)
 label_first n bytes some few deeper =
     let l : List ℕ = take n bytes in

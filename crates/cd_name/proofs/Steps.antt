@@ -3,7 +3,6 @@ use Rattle.std.proofs.Common.{◌≡◌, ℕ, ◌+◌, ◌≤◌, List, [], ◌�
 use Rattle.std.specs.Prelude.{unwrap_or}
 use Rattle.std.proofs.lemmas.Bool.{le-ltb}
 use Rattle.std.proofs.lemmas.List.{append-nil}
-use Rattle.std.proofs.Math.Seq.{drop-append_seam}
 use Rattle.cd_name.specs.Names.{NameReading, reading_at, label_then_reading, pointer_then_reading, root_reading, name_of_reading, name_at}
 use Rattle.cd_name.specs.NameGiving.{reading_with_end, IsEndWithin}
 
@@ -29,8 +28,8 @@ pub end_within_later : (at here later size : ℕ) (next : Option ℕ) → here �
 end_within_later at here later size None h w = omega arith
 end_within_later at here later size (Some n) h w = w
 
--- a root behind labels that leave room for it ends the name
-pub root_gives : (p labels : List ℕ) (at s here : ℕ) (next : Option ℕ) → length labels ≤ 254 →
+-- a root after labels that leave room for it ends the name
+root_gives : (p labels : List ℕ) (at s here : ℕ) (next : Option ℕ) → length labels ≤ 254 →
     reading_at p at at ≡ label_then_reading labels (reading_with_end next (reading_at p s here)) → reading_at p s here ≡ root_reading (here + 1) →
     name_at p at ≡ Ok (labels ++ 0 ∷ [], unwrap_or next (here + 1))
 root_gives p labels at s here None short reads root =
@@ -38,10 +37,9 @@ root_gives p labels at s here None short reads root =
 root_gives p labels at s here (Some next) short reads root =
     ap name_of_reading (reads ∙ ap (λ r. label_then_reading labels (pointer_then_reading next r)) root) ∙ rw (append-nil labels, le-ltb 254 (length labels) short) refl
 
--- bytes that are appended stand behind those that were there
-pub label_appended : (front bytes new label : List ℕ) → bytes ≡ front ++ drop (length front) bytes → new ≡ bytes ++ label →
-    (new ≡ front ++ drop (length front) new) × (drop (length front) new ≡ drop (length front) bytes ++ label)
-label_appended front bytes new label split is =
-    let whole : new ≡ front ++ (drop (length front) bytes ++ label) = is ∙ ap (λ t. t ++ label) split ∙ append_assoc front (drop (length front) bytes) label in
-    let behind : drop (length front) new ≡ drop (length front) bytes ++ label = ap (λ t. drop (length front) t) whole ∙ drop-append_seam front (drop (length front) bytes ++ label) in
-    (whole ∙ ap (λ t. front ++ t) (sym behind), behind)
+-- so it does for a name that has the same bytes, at an end that is the same
+pub root_ends : (p labels name : List ℕ) (at s here end : ℕ) (next : Option ℕ) → length labels ≤ 254 →
+    reading_at p at at ≡ label_then_reading labels (reading_with_end next (reading_at p s here)) → reading_at p s here ≡ root_reading (here + 1) →
+    name ≡ labels ++ 0 ∷ [] → end ≡ unwrap_or next (here + 1) → name_at p at ≡ Ok (name, end)
+root_ends p labels name at s here end next short reads root is ends =
+    root_gives p labels at s here next short reads root ∙ ap (λ n. Ok (labels ++ 0 ∷ [], n)) (sym ends) ∙ ap (λ t. Ok (t, end)) (sym is)

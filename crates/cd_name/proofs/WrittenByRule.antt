@@ -8,20 +8,20 @@ use Rattle.cd_name.proofs.LeastOffsets.{IsLeast, least_is_least}
 use Rattle.cd_name.proofs.WrittenSteps.{suffix_at_has, suffix_at_only, written_before, name_from-label, name_from-standing}
 use Rattle.cd_name.proofs.Spelled.{names_are_labels}
 
--- no label stands behind no labels
-no_label_behind : (front behind : List (List ℕ)) → [] ≡ front ++ behind → behind ≢ [] → ⊥
-no_label_behind [] behind e some = some (sym e)
-no_label_behind (f ∷ fs) behind e some = cc
+-- no label stands after no labels
+no_label_after : (front after : List (List ℕ)) → [] ≡ front ++ after → after ≢ [] → ⊥
+no_label_after [] after e some = some (sym e)
+no_label_after (f ∷ fs) after e some = cc
 
 -- where a suffix comes to stand of labels that are written at an offset before another suffix
 abbrev ComesToStand : ℕ → List (List ℕ) → List ℕ → Suffix → Type 0
 ComesToStand at labels suffix s =
-    (front : List (List ℕ)) × (behind : List (List ℕ)) × (labels ≡ front ++ behind) × (behind ≢ []) × (s.name ≡ label_bytes behind ++ suffix) ×
+    (front : List (List ℕ)) × (after : List (List ℕ)) × (labels ≡ front ++ after) × (after ≢ []) × (s.name ≡ label_bytes after ++ suffix) ×
     (s.offset ≡ at + length (label_bytes front)) × (s.offset < 16384)
 
 -- none comes to stand where no label is written
 none_comes_to_stand : (at : ℕ) (suffix : List ℕ) (s : Suffix) → Contains [] s ↔ ComesToStand at [] suffix s
-none_comes_to_stand at suffix s = (λ h. absurd (omega (arith, h.1)), λ c. absurd (no_label_behind c.0 c.1 c.2 c.3))
+none_comes_to_stand at suffix s = (λ h. absurd (omega (arith, h.1)), λ c. absurd (no_label_after c.0 c.1 c.2 c.3))
 
 -- a root is written by the rule
 root_by_rule : (standing : List Suffix) (at : ℕ) → IsWrittenByRule standing at (0 ∷ []) (name_from standing at 0 (0 ∷ []))
@@ -31,7 +31,7 @@ root_by_rule standing at = record {
   suffix = 0 ∷ [];
   are_labels = tt;
   is_all = refl;
-  is_longest = λ front behind offset e some h. no_label_behind front behind e some;
+  is_longest = λ front after offset e some h. no_label_after front after e some;
   ends = inl (refl, refl);
   come_to_stand = none_comes_to_stand at (0 ∷ []);
 }
@@ -44,7 +44,7 @@ pointer_by_rule standing at n bytes offset some least = record {
   suffix = n ∷ bytes;
   are_labels = tt;
   is_all = refl;
-  is_longest = λ front behind offset e some h. no_label_behind front behind e some;
+  is_longest = λ front after offset e some h. no_label_after front after e some;
   ends = inr (offset, λ e. absurd (omega (arith, ap (λ bs. get_or bs 0 0) e)), least, refl);
   come_to_stand = none_comes_to_stand at (n ∷ bytes);
 }
@@ -52,12 +52,12 @@ pointer_by_rule standing at n bytes offset some least = record {
 -- no longer suffix stands, with one label more
 longest_with_label : (standing : List Suffix) (l : List ℕ) (ls : List (List ℕ)) (suffix : List ℕ) →
     ((offset : ℕ) → StandsAt standing (label_bytes (l ∷ ls) ++ suffix) offset → ⊥) →
-    ((front behind : List (List ℕ)) (offset : ℕ) → ls ≡ front ++ behind → behind ≢ [] → StandsAt standing (label_bytes behind ++ suffix) offset → ⊥) →
-    (front behind : List (List ℕ)) (offset : ℕ) → l ∷ ls ≡ front ++ behind → behind ≢ [] → StandsAt standing (label_bytes behind ++ suffix) offset → ⊥
-longest_with_label standing l ls suffix none longest [] behind offset e some h =
+    ((front after : List (List ℕ)) (offset : ℕ) → ls ≡ front ++ after → after ≢ [] → StandsAt standing (label_bytes after ++ suffix) offset → ⊥) →
+    (front after : List (List ℕ)) (offset : ℕ) → l ∷ ls ≡ front ++ after → after ≢ [] → StandsAt standing (label_bytes after ++ suffix) offset → ⊥
+longest_with_label standing l ls suffix none longest [] after offset e some h =
     let P : List (List ℕ) → Type 0 = λ labels. StandsAt standing (label_bytes labels ++ suffix) offset in
     none offset (subst P (sym e) h)
-longest_with_label standing l ls suffix none longest (f ∷ fs) behind offset e some h = longest fs behind offset (cc) some h
+longest_with_label standing l ls suffix none longest (f ∷ fs) after offset e some h = longest fs after offset (cc) some h
 
 -- what stands with one label more comes to stand there
 comes_with_label : (at : ℕ) (l : List ℕ) (ls : List (List ℕ)) (suffix : List ℕ) (others : List Suffix) (s : Suffix) →
@@ -76,16 +76,16 @@ comes_with_label at l ls suffix others s deeper h =
 -- what comes to stand with one label more stands there
 has_with_label : (at : ℕ) (l : List ℕ) (ls : List (List ℕ)) (suffix : List ℕ) (others : List Suffix) (s : Suffix) →
     (ComesToStand (at + length (length l ∷ l)) ls suffix s → Contains others s) →
-    (front behind : List (List ℕ)) → l ∷ ls ≡ front ++ behind → behind ≢ [] → s.name ≡ label_bytes behind ++ suffix → s.offset ≡ at + length (label_bytes front) →
+    (front after : List (List ℕ)) → l ∷ ls ≡ front ++ after → after ≢ [] → s.name ≡ label_bytes after ++ suffix → s.offset ≡ at + length (label_bytes front) →
     s.offset < 16384 → Contains (suffix_at (label_bytes (l ∷ ls) ++ suffix) at ++ others) s
-has_with_label at l ls suffix others s deeper [] behind e some n o near =
+has_with_label at l ls suffix others s deeper [] after e some n o near =
     Contains-append_left (suffix_at (label_bytes (l ∷ ls) ++ suffix) at) others s
     (suffix_at_has s (label_bytes (l ∷ ls) ++ suffix) at (n ∙ ap (λ labels. label_bytes labels ++ suffix) (sym e)) (omega (arith, o)) near)
-has_with_label at l ls suffix others s deeper (f ∷ fs) behind e some n o near =
+has_with_label at l ls suffix others s deeper (f ∷ fs) after e some n o near =
     let same : l ≡ f = cc in
     let size : length (length l ∷ l) ≡ length (length f ∷ f) = ap (λ (t : List ℕ). length (length t ∷ t)) same in
     Contains-append_right (suffix_at (label_bytes (l ∷ ls) ++ suffix) at) others s
-    (deeper (fs, behind, cc, some, n, omega (arith, o, size, length-append (length f ∷ f) (label_bytes fs)), near))
+    (deeper (fs, after, cc, some, n, omega (arith, o, size, length-append (length f ∷ f) (label_bytes fs)), near))
 
 -- a label before what is written by the rule is written by the rule
 label_by_rule : (standing : List Suffix) (at : ℕ) (l more : List ℕ) (w : Written) → IsLabel l → IsLeast standing ((length l ∷ l) ++ more) None →
@@ -112,7 +112,7 @@ label_by_rule standing at l more w is none r =
       ));
     }
 
--- what begins with a label is written by the rule if what is behind the label is
+-- what begins with a label is written by the rule if what is after the label is
 label_or_pointer : (standing : List Suffix) (at : ℕ) (l more : List ℕ) (found : Option ℕ) → least_offset standing ((length l ∷ l) ++ more) ≡ found →
     IsLeast standing ((length l ∷ l) ++ more) found → IsLabel l →
     IsWrittenByRule standing (at + length (length l ∷ l)) more (name_from standing (at + length (length l ∷ l)) 0 more) →

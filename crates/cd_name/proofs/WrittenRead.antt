@@ -13,16 +13,16 @@ use Rattle.cd_name.proofs.Plain.{plain_names}
 use Rattle.cd_name.proofs.Pointers.{pointers_are_followed}
 use Rattle.cd_name.proofs.WrittenByRule.{names_are_written_by_rule}
 
--- the bytes of labels behind others
-label_bytes-append : (front behind : List (List ℕ)) → label_bytes (front ++ behind) ≡ label_bytes front ++ label_bytes behind
-label_bytes-append [] behind = refl
-label_bytes-append (l ∷ ls) behind =
-    ap (λ t. (length l ∷ l) ++ t) (label_bytes-append ls behind) ∙ sym (append_assoc (length l ∷ l) (label_bytes ls) (label_bytes behind))
+-- the bytes of labels after others
+label_bytes-append : (front after : List (List ℕ)) → label_bytes (front ++ after) ≡ label_bytes front ++ label_bytes after
+label_bytes-append [] after = refl
+label_bytes-append (l ∷ ls) after =
+    ap (λ t. (length l ∷ l) ++ t) (label_bytes-append ls after) ∙ sym (append_assoc (length l ∷ l) (label_bytes ls) (label_bytes after))
 
 -- the last ones of labels are labels
-labels_behind : (front behind : List (List ℕ)) → AllByRecursion IsLabel (front ++ behind) → AllByRecursion IsLabel behind
-labels_behind [] behind are = are
-labels_behind (l ∷ ls) behind are = labels_behind ls behind are.1
+labels_after : (front after : List (List ℕ)) → AllByRecursion IsLabel (front ++ after) → AllByRecursion IsLabel after
+labels_after [] after are = are
+labels_after (l ∷ ls) after are = labels_after ls after are.1
 
 -- labels and the root are read
 all_is_read : (front : List ℕ) (labels : List (List ℕ)) → AllByRecursion IsLabel labels → length (label_bytes labels ++ 0 ∷ []) ≤ 255 →
@@ -40,41 +40,41 @@ pointer_is_read : (old before : List ℕ) (labels : List (List ℕ)) (suffix : L
     (length ((old ++ before) ++ (label_bytes labels ++ pointer_to offset)))
 pointer_is_read old before labels suffix offset next are near reads short =
     let front : List ℕ = old ++ before in
-    let behind : List ℕ = label_bytes labels ++ pointer_to offset in
+    let after : List ℕ = label_bytes labels ++ pointer_to offset in
     let n = names_are_names old offset suffix next reads in
-    let stays : NameAt (front ++ behind) offset suffix next =
-    (let P : List ℕ → Type 0 = λ p. NameAt p offset suffix next in subst P (sym (append_assoc old before behind)) (names_stay old (before ++ behind) offset suffix next reads)) in
+    let stays : NameAt (front ++ after) offset suffix next =
+    (let P : List ℕ → Type 0 = λ p. NameAt p offset suffix next in subst P (sym (append_assoc old before after)) (names_stay old (before ++ after) offset suffix next reads)) in
     let target : offset ≡ (192 + offset / 256 - 192) * 256 + offset % 256 = omega arith in
     let within : offset < length front = omega (arith, n.1, n.2, length-append old before) in
-    let next_is : length front + length (label_bytes labels) + 2 ≡ length (front ++ behind) = omega (arith, length-append front behind, length-append (label_bytes labels) (pointer_to offset)) in
-    let Q : ℕ → Type 0 = λ k. NameAt (front ++ behind) (length front) (label_bytes labels ++ suffix) k in
+    let next_is : length front + length (label_bytes labels) + 2 ≡ length (front ++ after) = omega (arith, length-append front after, length-append (label_bytes labels) (pointer_to offset)) in
+    let Q : ℕ → Type 0 = λ k. NameAt (front ++ after) (length front) (label_bytes labels ++ suffix) k in
     subst Q next_is (pointers_are_followed labels front [] suffix (192 + offset / 256) (offset % 256) offset next are (omega arith) target within stays short)
 
 -- what is written by the rule is read from each of its labels on
 label_is_read : (old : List ℕ) (standing : List Suffix) (name : List ℕ) (w : Written) → SuffixesAreRead old standing → IsName name → (r : IsWrittenByRule standing (length old) name w) →
-    (front behind : List (List ℕ)) → r.labels ≡ front ++ behind →
-    NameAt (old ++ w.bytes) (length old + length (label_bytes front)) (label_bytes behind ++ r.suffix) (length (old ++ w.bytes))
-label_is_read old standing name w are is r front behind e =
+    (front after : List (List ℕ)) → r.labels ≡ front ++ after →
+    NameAt (old ++ w.bytes) (length old + length (label_bytes front)) (label_bytes after ++ r.suffix) (length (old ++ w.bytes))
+label_is_read old standing name w are is r front after e =
     let before : List ℕ = label_bytes front in
-    let are_behind : AllByRecursion IsLabel behind = labels_behind front behind (let P : List (List ℕ) → Type 0 = λ ls. AllByRecursion IsLabel ls in subst P e r.are_labels) in
-    let parts : label_bytes r.labels ≡ before ++ label_bytes behind = ap label_bytes e ∙ label_bytes-append front behind in
-    let short : length (label_bytes behind) + length r.suffix ≤ 255 =
-    omega (arith, ap length r.is_all, length-append (label_bytes r.labels) r.suffix, ap length parts, length-append before (label_bytes behind), is.1) in
-    let place : (end : List ℕ) → w.bytes ≡ label_bytes r.labels ++ end → (old ++ before) ++ (label_bytes behind ++ end) ≡ old ++ w.bytes =
+    let are_after : AllByRecursion IsLabel after = labels_after front after (let P : List (List ℕ) → Type 0 = λ ls. AllByRecursion IsLabel ls in subst P e r.are_labels) in
+    let parts : label_bytes r.labels ≡ before ++ label_bytes after = ap label_bytes e ∙ label_bytes-append front after in
+    let short : length (label_bytes after) + length r.suffix ≤ 255 =
+    omega (arith, ap length r.is_all, length-append (label_bytes r.labels) r.suffix, ap length parts, length-append before (label_bytes after), is.1) in
+    let place : (end : List ℕ) → w.bytes ≡ label_bytes r.labels ++ end → (old ++ before) ++ (label_bytes after ++ end) ≡ old ++ w.bytes =
     λ (end : List ℕ) (b : w.bytes ≡ label_bytes r.labels ++ end).
-    append_assoc old before (label_bytes behind ++ end) ∙ ap (λ t. old ++ t) (sym (append_assoc before (label_bytes behind) end) ∙ ap (λ t. t ++ end) (sym parts) ∙ sym b) in
-    let P : List ℕ → Type 0 = λ p. NameAt p (length old + length before) (label_bytes behind ++ r.suffix) (length p) in
+    append_assoc old before (label_bytes after ++ end) ∙ ap (λ t. old ++ t) (sym (append_assoc before (label_bytes after) end) ∙ ap (λ t. t ++ end) (sym parts) ∙ sym b) in
+    let P : List ℕ → Type 0 = λ p. NameAt p (length old + length before) (label_bytes after ++ r.suffix) (length p) in
     let Q : (end : List ℕ) → ℕ → Type 0 =
-    λ end k. NameAt ((old ++ before) ++ (label_bytes behind ++ end)) k (label_bytes behind ++ r.suffix) (length ((old ++ before) ++ (label_bytes behind ++ end))) in
+    λ end k. NameAt ((old ++ before) ++ (label_bytes after ++ end)) k (label_bytes after ++ r.suffix) (length ((old ++ before) ++ (label_bytes after ++ end))) in
     elim r.ends [
       | inl root ↦
-          let R : List ℕ → Type 0 = λ s. NameAt ((old ++ before) ++ (label_bytes behind ++ s)) (length (old ++ before)) (label_bytes behind ++ s) (length ((old ++ before) ++ (label_bytes behind ++ s))) in
+          let R : List ℕ → Type 0 = λ s. NameAt ((old ++ before) ++ (label_bytes after ++ s)) (length (old ++ before)) (label_bytes after ++ s) (length ((old ++ before) ++ (label_bytes after ++ s))) in
           subst P (place r.suffix (root.1 ∙ r.is_all)) (subst (Q r.suffix) (length-append old before)
-          (subst R (sym root.0) (all_is_read (old ++ before) behind are_behind (omega (arith, length-append (label_bytes behind) (0 ∷ []), ap length root.0)))))
+          (subst R (sym root.0) (all_is_read (old ++ before) after are_after (omega (arith, length-append (label_bytes after) (0 ∷ []), ap length root.0)))))
       | inr far ↦
           let stands = All-contains (λ (s : Suffix). (s.offset < 16384) × ((next : ℕ) × NameAt old s.offset s.name next)) standing _ are far.2.stands in
           subst P (place (pointer_to far.0) far.3) (subst (Q (pointer_to far.0)) (length-append old before)
-          (pointer_is_read old before behind r.suffix far.0 stands.1.0 are_behind stands.0 stands.1.1 short))
+          (pointer_is_read old before after r.suffix far.0 stands.1.0 are_after stands.0 stands.1.1 short))
     ]
 
 -- what is written by the rule is read, and so are the suffixes that come to stand

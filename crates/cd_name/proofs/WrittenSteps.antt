@@ -3,7 +3,7 @@ use Rattle.std.proofs.Common.{◌≡◌, ℕ, suc, ◌+◌, ◌<◌, List, [], �
 use Rattle.std.specs.List.{Contains}
 use Rattle.std.proofs.lemmas.Bool.{cases_lt, eq-eqb, ne_eqb, lt-ltb, le-ltb}
 use Rattle.cd_name.specs.WrittenNames.{Suffix, Written, least_offset, pointer_to, suffix_at, only_bytes, label_then, name_from}
-use Rattle.cd_name.proofs.LeastOffsets.{first_or_behind, first_stands}
+use Rattle.cd_name.proofs.LeastOffsets.{first_or_after, first_stands}
 
 -- a suffix comes to stand at an offset to which a pointer can lead
 pub suffix_at-near : (name : List ℕ) (at : ℕ) → at < 16384 → suffix_at name at ≡ record { name = name; offset = at } ∷ []
@@ -24,7 +24,7 @@ suffix_at_only s name at h =
       | inl near ↦
           let here : Suffix = record { name = name; offset = at } in
           let h2 : Contains (here ∷ []) s = rw (lt-ltb at 16384 near) at h in
-          elim (first_or_behind here [] s h2) [
+          elim (first_or_after here [] s h2) [
             | inl e ↦ (sym (ap (λ (x : Suffix). x.name) e), sym (ap (λ (x : Suffix). x.offset) e), omega (arith, ap (λ (x : Suffix). x.offset) e))
             | inr none ↦ absurd (omega (arith, none.1))
           ]
@@ -62,7 +62,7 @@ name_from-inside standing at (b ∷ l) more =
     let place : at + 1 + length l ≡ at + suc (length l) = omega arith in
     ap (λ w. written_before (b ∷ []) [] w) (name_from-inside standing (at + 1) l more) ∙ ap (λ k. written_before (b ∷ l) [] (name_from standing k 0 more)) place
 
--- a label is written before what is behind it if no suffix that stands begins with it
+-- a label is written before what is after it if no suffix that stands begins with it
 pub name_from-label : (standing : List Suffix) (at : ℕ) (l more : List ℕ) → 0 < length l → least_offset standing ((length l ∷ l) ++ more) ≡ None →
     name_from standing at 0 ((length l ∷ l) ++ more)
     ≡ written_before (length l ∷ l) (suffix_at ((length l ∷ l) ++ more) at) (name_from standing (at + length (length l ∷ l)) 0 more)

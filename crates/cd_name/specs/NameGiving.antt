@@ -1,5 +1,6 @@
 -- What a call that reads a name gives.
 use Rattle.std.specs.Prelude.{◌≡◌, ℕ, ◌<◌, ◌≤◌, List, ◌++◌, Option, Some, None, Result, Ok, Err}
+use Rattle.arrayvec.specs.ArrayVec.{ArrayVec}
 use Rattle.cd_name.specs.declared.fault.NameWhy.{NameWhy}
 use Rattle.cd_name.specs.declared.fault.NameFault.{NameFault}
 use Rattle.cd_name.specs.declared.fault.NameFault.TheVariants.{Bad, NoMemory}
@@ -11,7 +12,7 @@ GivesName (Ok r) read = read ≡ Ok r
 GivesName (Err (Bad why)) read = read ≡ Err why
 GivesName (Err NoMemory) read = Unit {0}
 
--- a call appends the name that is read and gives the offset behind it, unless memory ran out
+-- a call appends the name that is read and gives the offset after it, unless memory ran out
 abbrev pub AppendsName : List ℕ → List ℕ → Result ℕ NameFault → Result (List ℕ × ℕ) NameWhy → Type 0
 AppendsName old new (Ok next) read = (name : List ℕ) × (read ≡ Ok (name, next)) × (new ≡ old ++ name) × IsName name
 AppendsName old new (Err (Bad why)) read = read ≡ Err why
@@ -26,3 +27,8 @@ reading_with_end (Some next) r = pointer_then_reading next r
 abbrev pub IsEndWithin : ℕ → ℕ → ℕ → Option ℕ → Type 0
 IsEndWithin at here size None = at ≤ here
 IsEndWithin at here size (Some next) = (at < next) × (next ≤ size)
+
+-- a walk gives exactly what is read
+abbrev pub Walks : Result (ArrayVec ℕ × ℕ) NameWhy → Result (List ℕ × ℕ) NameWhy → Type 0
+Walks (Ok walked) read = (read ≡ Ok (walked.0.items, walked.1)) × IsName walked.0.items
+Walks (Err why) read = read ≡ Err why

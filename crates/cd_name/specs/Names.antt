@@ -1,4 +1,4 @@
--- Names in a message (RFC 1035 3.1, 4.1.4): a run of labels, each behind its length byte, ends at a root, at a pointer or at a rule that is broken.
+-- Names in a message (RFC 1035 3.1, 4.1.4): a run of labels, each after its length byte, ends at a root, at a pointer or at a rule that is broken.
 use Rattle.std.specs.Prelude.{◌≡◌, ℕ, zero, suc, ◌+◌, ◌-◌, ◌*◌, ◌≤◌, Bool, true, false, ◌&&◌, nat_lt, nat_eq, List, [], ◌∷◌, ◌++◌, length, take, drop, slice_index, if◌then◌else◌, Option, Some, None, Result, Ok, Err}
 use Rattle.cd_name.specs.declared.fault.NameWhy.{NameWhy}
 use Rattle.cd_name.specs.declared.fault.NameWhy.TheVariants.{Short, Label, Pointer, LongName}
@@ -9,7 +9,7 @@ pub data RunEnd : Type 0 where
   Target : ℕ → RunEnd
   Break : NameWhy → RunEnd
 
--- the labels of a run, each behind its length byte, and how it ends
+-- the labels of a run, each after its length byte, and how it ends
 pub record LabelRun : Type 0 where
   pub labels : List ℕ
   pub end : RunEnd
@@ -34,7 +34,7 @@ label_run zero (n ∷ bytes) =
     else (if nat_lt (length bytes) n then run_of_end (Break Short)
     else label_then_run (n ∷ take n bytes) (label_run n bytes))))
 
--- what is read from an offset on: labels, the offset behind the name's own bytes, and the rule that is broken behind the labels
+-- what is read from an offset on: labels, the offset after the name's own bytes, and the rule that is broken after the labels
 pub record NameReading : Type 0 where
   pub labels : List ℕ
   pub next : ℕ
@@ -48,7 +48,7 @@ root_reading next = record { labels = []; next = next; fault = None }
 abbrev pub break_reading : ℕ → NameWhy → NameReading
 break_reading at why = record { labels = []; next = at; fault = Some why }
 
--- a label with its length byte, and then what is read behind it
+-- a label with its length byte, and then what is read after it
 abbrev pub label_then_reading : List ℕ → NameReading → NameReading
 label_then_reading label r = record { labels = label ++ r.labels; next = r.next; fault = r.fault }
 
@@ -77,16 +77,16 @@ target_reading payload (suc start) target =
 unfoldable pub reading_at : List ℕ → ℕ → ℕ → NameReading
 reading_at payload start at = run_reading (target_reading payload start) at (label_run 0 (drop at payload))
 
--- labels and the root, or the rule that is broken behind the labels
+-- labels and the root, or the rule that is broken after the labels
 abbrev pub name_or_rule : List ℕ → ℕ → Option NameWhy → Result (List ℕ × ℕ) NameWhy
 name_or_rule labels next None = Ok (labels ++ 0 ∷ [], next)
 name_or_rule labels next (Some why) = Err why
 
--- Labels of more than 254 bytes leave no room for the root, and that rule is broken before any behind them.
+-- Labels of more than 254 bytes leave no room for the root, and that rule is broken before any after them.
 abbrev pub name_of_reading : NameReading → Result (List ℕ × ℕ) NameWhy
 name_of_reading r = if nat_lt 254 (length r.labels) then Err LongName else name_or_rule r.labels r.next r.fault
 
--- the name at an offset and the offset behind its own bytes, or the first rule that is broken
+-- the name at an offset and the offset after its own bytes, or the first rule that is broken
 abbrev pub name_at : List ℕ → ℕ → Result (List ℕ × ℕ) NameWhy
 name_at payload at = name_of_reading (reading_at payload at at)
 

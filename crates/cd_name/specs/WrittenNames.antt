@@ -60,7 +60,7 @@ name_from standing at zero (n ∷ bytes) =
 abbrev pub name_piece : List ℕ → Piece
 name_piece name standing at = name_from standing at zero name
 
--- Behind bytes in which suffixes stand, a piece is written, and its suffixes stand too.
+-- After bytes in which suffixes stand, a piece is written, and its suffixes stand too.
 pub record Writes (piece : Piece) (old_bytes : List ℕ) (old_suffixes : List Suffix) (new_bytes : List ℕ) (new_suffixes : List Suffix) : Type 0 where
   pub bytes : new_bytes ≡ old_bytes ++ (piece old_suffixes (length old_bytes)).bytes
   pub suffixes : new_suffixes ≡ old_suffixes ++ (piece old_suffixes (length old_bytes)).suffixes
@@ -81,11 +81,11 @@ pub record IsWrittenByRule (standing : List Suffix) (at : ℕ) (name : List ℕ)
   pub suffix : List ℕ
   pub are_labels : AllByRecursion IsLabel labels
   pub is_all : name ≡ label_bytes labels ++ suffix
-  pub is_longest : (front behind : List (List ℕ)) (offset : ℕ) → labels ≡ front ++ behind → behind ≢ [] → StandsAt standing (label_bytes behind ++ suffix) offset → ⊥
+  pub is_longest : (front after : List (List ℕ)) (offset : ℕ) → labels ≡ front ++ after → after ≢ [] → StandsAt standing (label_bytes after ++ suffix) offset → ⊥
   pub ends : ((suffix ≡ 0 ∷ []) × (written.bytes ≡ name)) ⊎
       ((offset : ℕ) × (suffix ≢ 0 ∷ []) × IsLeastOffset standing suffix offset × (written.bytes ≡ label_bytes labels ++ pointer_to offset))
-  pub come_to_stand : (s : Suffix) → Contains written.suffixes s ↔ ((front : List (List ℕ)) × (behind : List (List ℕ)) × (labels ≡ front ++ behind) ×
-      (behind ≢ []) × (s.name ≡ label_bytes behind ++ suffix) × (s.offset ≡ at + length (label_bytes front)) × (s.offset < 16384))
+  pub come_to_stand : (s : Suffix) → Contains written.suffixes s ↔ ((front : List (List ℕ)) × (after : List (List ℕ)) × (labels ≡ front ++ after) ×
+      (after ≢ []) × (s.name ≡ label_bytes after ++ suffix) × (s.offset ≡ at + length (label_bytes front)) × (s.offset < 16384))
 
 -- each name is written by the rule
 abbrev pub NamesAreWrittenByRule : Type 0

@@ -49,7 +49,7 @@ impl Blob {
         self.bytes.extend_from_slice(bytes)
     }
 
-    /// Keeps the first bytes, as many as are given, and drops those behind them.
+    /// Keeps the first bytes, as many as are given, and drops those after them.
     pub fn truncate(&mut self, len: usize)
         ensures { self.new ≡ take len self.old }
     {

@@ -1,6 +1,6 @@
 //! Names, and the small containers that contracts see as lists.
 //!
-//! - A *label* is 1 to 63 bytes behind a byte with their number; a *name* is labels and the root, a byte 0, in 1 to 255 bytes.
+//! - A *label* is 1 to 63 bytes after a byte with their number; a *name* is labels and the root, a byte 0, in 1 to 255 bytes.
 //! - A *pointer* stands in a message for the rest of a name; `read_name` follows it. A *run* is the labels up to a root or a pointer.
 //! - A `Name` is a name without pointers. `fold` turns its letters to lower case, so that equal names have equal bytes.
 //! - A `Blob` is some bytes on the heap, a `List<T>` some items. In a clause either one is the list of what it holds, so two
@@ -15,28 +15,28 @@
 mod blob;
 mod fault;
 mod label_run;
-mod law;
+pub mod laws;
+mod leads;
 mod list;
 mod name;
+mod name_reader;
 mod name_reading;
 #[cfg(test)]
 mod name_tests;
+mod name_walk;
 mod name_writer;
 #[cfg(test)]
 mod name_writer_tests;
 mod piece;
+mod shared_suffix;
 #[cfg(test)]
 mod tests;
 
 pub use blob::Blob;
 pub use fault::{NameFault, NameWhy};
 pub use label_run::run_is_cut;
-pub use law::{
-    name_sizes_are_exact, names_are_labels, names_are_written_by_rule, names_follow_the_rules,
-    names_stay, plain_names_are_read, pointers_are_followed, rules_give_one,
-    written_names_are_read,
-};
 pub use list::List;
 pub use name::{Name, fold, is_name, name_size};
+pub use name_reader::NameReader;
 pub use name_reading::{append_name, read_name};
 pub use name_writer::NameWriter;

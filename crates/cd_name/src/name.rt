@@ -9,7 +9,7 @@ use crate::piece::MAX_LABEL;
 use std::alloc::{AllocError, Global};
 use std::marker::Model;
 
-/// A name without pointers: labels of 1 to 63 bytes, each behind its length byte, and the root, in 1 to 255 bytes
+/// A name without pointers: labels of 1 to 63 bytes, each after its length byte, and the root, in 1 to 255 bytes
 /// (RFC 1035 3.1). Contracts see it as its bytes.
 #[derive(Debug, Drop)]
 pub struct Name {
@@ -73,7 +73,7 @@ pub fn name_size(bytes: &[u8]) -> Option<usize>
     None
 }
 
-/// Whether the bytes are a name without pointers: labels of 1 to 63 bytes, each behind its length byte, and the root as the
+/// Whether the bytes are a name without pointers: labels of 1 to 63 bytes, each after its length byte, and the root as the
 /// last byte, in 1 to 255 bytes (RFC 1035 3.1).
 pub fn is_name(bytes: &[u8]) -> bool
     ensures { IsTrue result ↔ IsName bytes.now }

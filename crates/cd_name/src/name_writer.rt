@@ -7,6 +7,7 @@ ghost use Rattle.cd_name.specs.WrittenNames.{Suffix, Writes, name_piece, least_o
 
 use crate::blob::Blob;
 use crate::name::Name;
+use crate::shared_suffix::SharedSuffix;
 use indexmap::IndexMap;
 use std::alloc::{AllocError, Global};
 use std::marker::Model;
@@ -18,8 +19,8 @@ const FIRST_BEYOND: usize = 16384;
 /// as the suffixes that stand in the message below offset 16,384, each with its offset, in the order in which they were written.
 #[derive(Drop)]
 pub struct NameWriter {
-    /// The suffixes, each with its offset.
-    offsets: IndexMap<Vec<u8>, u16>,
+    // The suffixes, each with its offset. Those of one name share its bytes.
+    offsets: IndexMap<SharedSuffix, u16>,
     alloc: Global,
 }
 
@@ -31,9 +32,9 @@ impl Model for NameWriter {
 
     ghost Value = { List Suffix };
 
-    ghost view = { λ w. map (λ e. record { name = e.0.items; offset = e.1 }) w.offsets.entries };
+    ghost view = { λ w. map (λ e. record { name = e.0; offset = e.1 }) w.offsets.entries };
 
-    ghost invariant = { λ w. All (λ e. e.1 < 16384) w.offsets.entries × IsUnique (λ a b. bytes_eq a.items b.items) w.offsets };
+    ghost invariant = { λ w. All (λ e. e.1 < 16384) w.offsets.entries × IsUnique bytes_eq w.offsets };
 }
 
 impl NameWriter {
@@ -77,21 +78,22 @@ impl NameWriter {
         }
     }
 
-    /// Appends a name. An `Err` may leave labels of it, and suffixes that stand in them.
+    // Appends a name. An `Err` may leave labels of it, and suffixes that stand in them.
     fn append(&mut self, message: &mut Blob, name: &[u8]) -> Result<(), AllocError>
         requires { IsName name.now }
         ensures ok { OnOk result (Writes (name_piece name.now) message.old self.old message.new self.new) }
         ensures kept_message { (more : List ℕ) × (message.new ≡ message.old ++ more) }
         ensures kept_suffixes { (more : List Suffix) × (self.new ≡ self.old ++ more) }
     {
+        let whole = SharedSuffix::from_slice(self.alloc, name)?;
         let mut here = 0;
         'labels: while here < name.len() {
-            let suffix = &name[here..];
             let size = usize::from(name[here]);
             if size == 0 {
                 return message.push(0);
             }
-            if let Some(offset) = self.offset_of(suffix) {
+            let suffix = whole.suffix(here)?;
+            if let Some(offset) = self.offset_of(&suffix) {
                 return message.push_slice(&pointer_to(offset));
             }
             self.note(suffix, message.as_slice().len())?;
@@ -102,32 +104,31 @@ impl NameWriter {
         Ok(())
     }
 
-    /// The least offset at which a suffix stands.
-    fn offset_of(&self, suffix: &[u8]) -> Option<u16>
+    // The least offset at which a suffix stands.
+    fn offset_of(&self, suffix: &SharedSuffix) -> Option<u16>
         ensures least { result ≡ least_offset self.now suffix.now }
         ensures near { IfSome result (λ offset. offset < 16384) }
     {
         self.offsets.get(suffix).copied()
     }
 
-    /// Notes the offset at which a suffix is written, if a pointer can lead there. An `Err` changes nothing.
-    fn note(&mut self, suffix: &[u8], offset: usize) -> Result<(), AllocError>
-        requires { least_offset self.old suffix.now ≡ None }
-        ensures ok { OnOk result (self.new ≡ self.old ++ suffix_at suffix.now offset) }
+    // Notes the offset at which a suffix is written, if a pointer can lead there. An `Err` changes nothing.
+    fn note(&mut self, suffix: SharedSuffix, offset: usize) -> Result<(), AllocError>
+        requires { least_offset self.old suffix ≡ None }
+        ensures ok { OnOk result (self.new ≡ self.old ++ suffix_at suffix offset) }
         ensures err { OnErr result (self.new ≡ self.old) }
     {
         if offset >= FIRST_BEYOND {
             return Ok(());
         }
-        let key = Vec::from_slice(self.alloc, suffix)?;
-        match self.offsets.insert(key, offset as u16) {
+        match self.offsets.insert(suffix, offset as u16) {
             Ok(_none) => Ok(()),
             Err(_refused) => Err(AllocError),
         }
     }
 }
 
-/// A pointer to an offset (RFC 1035 4.1.4).
+// A pointer to an offset (RFC 1035 4.1.4).
 fn pointer_to(offset: u16) -> [u8; 2]
     requires { offset < 16384 }
     ensures { result ≡ WrittenNames.pointer_to offset }

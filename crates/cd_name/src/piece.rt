@@ -8,7 +8,7 @@ use crate::fault::NameWhy;
 #[derive(Clone, Copy)]
 pub(crate) enum Piece {
     Root,
-    /// A label of so many bytes behind its length byte.
+    /// A label of so many bytes after its length byte.
     Label(usize),
     /// A pointer to an offset.
     Pointer(usize),

@@ -1,7 +1,7 @@
 use Rattle.std.proofs.Common.{length-drop, arith, sym}
 use Rattle.std.proofs.lemmas.List.{take_rest}
 use Rattle.cd_name.proofs.NameSizes.{name_sizes_are_exact}
-use Rattle.cd_message.proofs.NamesInFront.{left_behind, left_misses, none_left}
+use Rattle.cd_message.proofs.NamesInFront.{left_after, left_misses, none_left}
 use Rattle.cd_message.proofs.rdata_writing.names_size.Goals as goal
 
 pub returns-in-None : goal.returns-in-None
@@ -14,7 +14,7 @@ names-preserved c =
     let size = rw take_rest at c.in-Some.ensures in
     let is = (name_sizes_are_exact _ _).0 (sym size) in record {
       within = omega (arith, is.0, length-drop c.names.end c.args.bytes.now);
-      left = left_behind c.args.count c.args.bytes.now c.names.counter c.names.end c.in-Some.size c.names-test.true (sym size) c.names.invariant.left;
+      left = left_after c.args.count c.args.bytes.now c.names.counter c.names.end c.in-Some.size c.names-test.true (sym size) c.names.invariant.left;
     }
 
 pub returns : goal.returns

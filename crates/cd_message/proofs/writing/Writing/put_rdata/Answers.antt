@@ -11,7 +11,7 @@ returns-in_err-put_bytes-in-Some c =
     let found = c.in-Some.ensures in
     let e = c.in_err-put_bytes-in-Some.field-0.0 in
     let before : Piece = bytes_piece c.in-Some.parts.before.now in
-    let others : Piece = in_turn (each_in_turn name_piece found.0) (bytes_piece c.in-Some.parts.behind.now) in
+    let others : Piece = in_turn (each_in_turn name_piece found.0) (bytes_piece c.in-Some.parts.after.now) in
     let p = err_from_is_err_and c.from_residual.result c.from_residual.ensures.1 in
     rw (p.1, p.2)
     (puts_parts c.args.rtype c.args.rdata.now _ c.args.self.now c.put_bytes.new.self (Err e) found.1
@@ -23,12 +23,12 @@ returns-in_err-put_names-in-Some c =
     let e = c.in_err-put_names-in-Some.field-0.0 in
     let before : Piece = bytes_piece c.in-Some.parts.before.now in
     let names : Piece = each_in_turn name_piece found.0 in
-    let behind : Piece = bytes_piece c.in-Some.parts.behind.now in
-    let names_fail = puts_first_fails names behind c.put_bytes.new.self c.put_names.new.self e (c.in_err-put_names-in-Some.ensures found.0 found.3 found.2) in
+    let after : Piece = bytes_piece c.in-Some.parts.after.now in
+    let names_fail = puts_first_fails names after c.put_bytes.new.self c.put_names.new.self e (c.in_err-put_names-in-Some.ensures found.0 found.3 found.2) in
     let p = err_from_is_err_and c.from_residual-in_err-put_names-in-Some.result c.from_residual-in_err-put_names-in-Some.ensures.1 in
     rw (p.1, p.2)
     (puts_parts c.args.rtype c.args.rdata.now _ c.args.self.now c.put_names.new.self (Err e) found.1
-    (puts_in_turn before (in_turn names behind) c.args.self.now c.put_bytes.new.self c.put_names.new.self (Err e) c.in_ok-put_bytes-in-Some.ensures names_fail))
+    (puts_in_turn before (in_turn names after) c.args.self.now c.put_bytes.new.self c.put_names.new.self (Err e) c.in_ok-put_bytes-in-Some.ensures names_fail))
 
 pub returns-in_ok-put_names-in-Some : goal.returns-in_ok-put_names-in-Some
 returns-in_ok-put_names-in-Some c =
@@ -37,10 +37,10 @@ returns-in_ok-put_names-in-Some c =
     let r = c.put_bytes-in-Some.result in
     let before : Piece = bytes_piece c.in-Some.parts.before.now in
     let names : Piece = each_in_turn name_piece found.0 in
-    let behind : Piece = bytes_piece c.in-Some.parts.behind.now in
-    let puts = puts_in_turn names behind c.put_bytes.new.self c.put_names.new.self new r (c.in_ok-put_names-in-Some.ensures found.0 found.3 found.2) c.put_bytes-in-Some.ensures in
+    let after : Piece = bytes_piece c.in-Some.parts.after.now in
+    let puts = puts_in_turn names after c.put_bytes.new.self c.put_names.new.self new r (c.in_ok-put_names-in-Some.ensures found.0 found.3 found.2) c.put_bytes-in-Some.ensures in
     puts_parts c.args.rtype c.args.rdata.now _ c.args.self.now new r found.1
-    (puts_in_turn before (in_turn names behind) c.args.self.now c.put_bytes.new.self new r c.in_ok-put_bytes-in-Some.ensures puts)
+    (puts_in_turn before (in_turn names after) c.args.self.now c.put_bytes.new.self new r c.in_ok-put_bytes-in-Some.ensures puts)
 
 pub returns-in-None : goal.returns-in-None
 returns-in-None c = puts_as_it_is c.args.rtype c.args.rdata.now c.args.self.now c.put_bytes-in-None.new.self c.put_bytes-in-None.result c.in-None.ensures c.put_bytes-in-None.ensures

@@ -1,5 +1,4 @@
 use Rattle.std.proofs.Common.{◌≡◌, ◌+◌, ◌-◌, ◌<◌, ◌++◌, length, take, drop, sym, ap, ◌∙◌, arith}
-use Rattle.std.proofs.lemmas.List.{take_rest}
 use Rattle.std.proofs.lemmas.Result.{on_ok_weaker}
 use Rattle.cd_name.specs.WrittenNames.{least_offset, suffix_at}
 use Rattle.cd_name.proofs.NameProgress.{progress_start, progress_label, label_is_there, ends_with_root, ends_with_pointer, no_end}
@@ -14,10 +13,11 @@ returns-then-size-eq0-clause-ok c =
 
 pub returns-in-Some-clause-ok : goal.returns-in-Some-clause-ok
 returns-in-Some-clause-ok c =
+    let is = c.in_ok-suffix.ensures ∙ ap (λ w. drop c.labels.here w) c.in_ok-whole.ensures in
     let some : 0 < c.from-size.result = omega (arith, c.if-size-eq0.false) in
     on_ok_weaker c.push_slice.result
     (λ e.
-    ends_with_pointer c.labels.invariant c.push_slice.new.self c.from-size.result c.in-Some.offset (omega arith) (sym c.from-size.ensures) some (ap (λ t. least_offset c.labels.self t) (sym (take_rest c.args.name.now c.labels.here)) ∙ sym c.in-Some.ensures.least)
+    ends_with_pointer c.labels.invariant c.push_slice.new.self c.from-size.result c.in-Some.offset (omega arith) (sym c.from-size.ensures) some (ap (λ t. least_offset c.labels.self t) (sym is) ∙ sym c.in-Some.ensures.least)
     (e ∙ ap (λ t. c.labels.message ++ t) c.pointer_to.ensures))
     c.push_slice.ensures.ok
 
@@ -29,12 +29,13 @@ slice_bounds-push_slice-end-in-labels c =
 
 pub labels-preserved : goal.labels-preserved
 labels-preserved c =
+    let is = c.in_ok-suffix.ensures ∙ ap (λ w. drop c.labels.here w) c.in_ok-whole.ensures in
     let some : 0 < c.from-size.result = omega (arith, c.if-size-eq0.false) in
     let size : c.labels.here + c.from-size.result + 1 - c.labels.here ≡ c.from-size.result + 1 = omega arith in
     progress_label c.labels.invariant c.push_slice-in-labels.new.self c.note.new.self c.from-size.result (omega arith) (sym c.from-size.ensures) some
-    (ap (λ t. least_offset c.labels.self t) (sym (take_rest c.args.name.now c.labels.here)) ∙ sym c.in_default.ensures.least)
+    (ap (λ t. least_offset c.labels.self t) (sym is) ∙ sym c.in_default.ensures.least)
     (c.in_ok-push_slice.ensures.ok ∙ ap (λ k. c.labels.message ++ take k (drop c.labels.here c.args.name.now)) size)
-    (c.in_ok-note.ensures.ok ∙ ap (λ t. c.labels.self ++ suffix_at t (length c.as_slice.result.now)) (take_rest c.args.name.now c.labels.here) ∙ ap (λ m. c.labels.self ++ suffix_at (drop c.labels.here c.args.name.now) (length m)) c.as_slice.ensures)
+    (c.in_ok-note.ensures.ok ∙ ap (λ t. c.labels.self ++ suffix_at t (length c.as_slice.result.now)) is ∙ ap (λ m. c.labels.self ++ suffix_at (drop c.labels.here c.args.name.now) (length m)) c.as_slice.ensures)
 
 pub returns-clause-ok : goal.returns-clause-ok
 returns-clause-ok c = absurd (no_end c.labels.invariant (omega arith))

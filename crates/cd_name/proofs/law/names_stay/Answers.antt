@@ -1,5 +1,0 @@
-use Rattle.cd_name.proofs.Longer.{names_stay, broken_names_stay}
-use Rattle.cd_name.proofs.law.names_stay.Goals as goal
-
-pub returns : goal.returns
-returns c = record { read = names_stay; broken = broken_names_stay }
