@@ -5,10 +5,10 @@ use Rattle.std.specs.Io.KnownBytes.{Consumes, IsAtEnd}
 use Rattle.std.proofs.lemmas.Bool.{cases_lt, cases_Bool}
 use Rattle.std.proofs.lemmas.List.{append-nil, append_cancel_right}
 use Rattle.cd_packet.specs.Capture.{Capture, IsWholeOrCut, Grows}
-use Rattle.cd_packet.specs.Pcap.{is_little_micro, pcap}
-use Rattle.cd_packet.proofs.Records.{pcap-magic}
+use Rattle.cd_pcap.specs.Pcap.{is_little_micro, pcap}
+use Rattle.cd_pcap.proofs.Records.{pcap-magic}
 use Rattle.cd_packet.proofs.Growing.{has_magic-few}
-use Rattle.cd_packet.proofs.Extending.{pcap-grow}
+use Rattle.cd_pcap.proofs.Extending.{pcap-grow}
 use Rattle.cd_packet.specs.declared.capture.BadCapture.{BadCapture}
 use Rattle.cd_packet.specs.declared.capture.EndState.{EndState}
 use Rattle.cd_packet.specs.declared.capture.EndState.TheVariants.{Whole, Cut, Bad}
@@ -19,7 +19,7 @@ use Rattle.cd_top.specs.Run.{IsStopped, EndsAs, ComesExactly, IsTaken, Writes, I
 use Rattle.cd_top.specs.Words.{usage_text}
 use Rattle.cd_top.specs.declared.status.Status.{Status}
 use Rattle.cd_top.specs.declared.status.Status.TheVariants as status
-use Rattle.cd_top.proofs.Judging.{status_said-few, status_said-read, other-append, other-not_read, served-front, unsaid-judged, status_said-no_end}
+use Rattle.cd_top.proofs.StatusSaid.{status_said-few, status_said-read, other-append, other-not_read, served-front, unsaid-status, status_said-no_end}
 
 -- the bytes that were taken from a source that tells them are these and no others
 pub taken_is : (old new : SourceMeaning) (t taken : List ℕ) → Consumes old.left new.left t → IsTaken old new taken → t ≡ taken
@@ -106,7 +106,7 @@ served_unsaid t xs more h end =
             let g = pcap-grow xs more four in
             let packets : first_unserved 0 ((pcap xs).packets ++ g.rest.packets) ≡ None = ap (λ (c : Capture). first_unserved 0 c.packets) (sym g.packets) ∙ h.packets in
             status_said-read t xs four read
-            ∙ unsaid-judged (pcap xs) (record { packets = served-front 0 (pcap xs).packets g.rest.packets packets; end = open_before (pcap xs) (pcap (xs ++ more)) g h.end (pcap xs).end refl })
+            ∙ unsaid-status (pcap xs) (record { packets = served-front 0 (pcap xs).packets g.rest.packets packets; end = open_before (pcap xs) (pcap (xs ++ more)) g h.end (pcap xs).end refl })
       ]
     ]
   where

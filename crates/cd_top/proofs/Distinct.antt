@@ -47,7 +47,7 @@ lacks-push same decides table v w =
     let turned = same-sym same decides v w in
     grind (arith, pushed, turned)
 
--- a table that takes many values has behind its own those that it lacks, each once
+-- a table that takes many values has after its own those that it lacks, each once
 fold_put-from : {T : Type 0} (same : T → T → Bool) → ((a b : T) → Decides (same a b) (a ≡ b)) → (table values : List T) → fold (put same) table values ≡ table ++ filter (lacks same table) (table_of same values)
 fold_put-from same decides table [] = sym (append-nil table)
 fold_put-from {T} same decides table (v ∷ vs) =

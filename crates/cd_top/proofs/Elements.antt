@@ -46,7 +46,7 @@ count_of-entries : (es : List (ℕ × Tree)) → count_of (entries es) ≡ 2 * l
 count_of-entries [] = refl
 count_of-entries (e ∷ es) = omega (arith, count_of-entries es)
 
--- entries behind others
+-- entries after others
 spelling-entries_append : (es fs : List (ℕ × Tree)) → spelling (entries (es ++ fs)) ≡ spelling (entries es) ++ spelling (entries fs)
 spelling-entries_append [] fs = refl
 spelling-entries_append (e ∷ es) fs =
@@ -69,7 +69,7 @@ present_count-more ps i d h =
     ap length (present-more ps i d h)
     ∙ length-append (present (map integer_entry (take i ps))) (present (integer_entry (get_or ps i d) ∷ []))
 
--- what is there of one more pair is spelled behind the others
+-- what is there of one more pair is spelled after the others
 pub spelling-present_more : (ps : List (ℕ × Option Integer)) (i : ℕ) (d : ℕ × Option Integer) → i < length ps →
     spelling (entries (present (map integer_entry (take (i + 1) ps)))) ≡ spelling (entries (present (map integer_entry (take i ps)))) ++ spelling (entries (present (integer_entry (get_or ps i d) ∷ [])))
 spelling-present_more ps i d h =

@@ -1,51 +1,51 @@
--- What the intake knows of the bytes that it has taken.
+-- What the capture knows of the bytes that it has taken.
 use Rattle.std.proofs.Common.{◌≡◌, ℕ, ◌+◌, ◌<◌, ◌≤◌, min, Bool, true, false, ◌&&◌, cond, List, [], ◌∷◌, ◌++◌, length, map, take, drop, Option, Some, None, is_some, refl, ap, sym, ◌∙◌, arith, append_assoc}
 use Rattle.std.specs.Prelude.{nat_lt}
 use Rattle.std.proofs.lemmas.List.{length-map, length-take, map-append, take-append-drop}
 use Rattle.std.proofs.lemmas.List.Elements.{filter_map-append}
 use Rattle.cd_packet.specs.Capture.{Capture}
-use Rattle.cd_packet.specs.Pcap.{is_little_micro, pcap}
+use Rattle.cd_pcap.specs.Pcap.{is_little_micro, pcap}
 use Rattle.cd_packet.specs.declared.capture.EndState.{EndState}
 use Rattle.cd_packet.specs.declared.capture.EndState.TheVariants.{Whole, Cut, Bad}
 use Rattle.cd_packet.specs.declared.packet.Packet.{Packet}
 use Rattle.cd_top.specs.Events.{event_of, events_of, events}
-use Rattle.cd_top.specs.Gathered.{Follows, Drains, Judges, served_event}
+use Rattle.cd_top.specs.Gathered.{Follows, TakesPackets, SaysStatus, served_event}
 use Rattle.cd_top.specs.Endings.{is_other_format, is_served, first_unserved, status_of_end, status_of_packets, status_of_capture, status_said, most_packets}
 use Rattle.cd_pcap.specs.Reading.{Kept, StandsFor}
 use Rattle.cd_pcap.proofs.Refusals.{packets_before}
 use Rattle.cd_pcap.proofs.Standing.{given_first}
-use Rattle.cd_top.specs.declared.intake.Intake.{Intake}
+use Rattle.cd_top.specs.declared.capture_events.CaptureEvents.{CaptureEvents}
 use Rattle.cd_ident.specs.Events.{EventParts}
 use Rattle.cd_ident.specs.Keys.{parts_of}
 use Rattle.cd_ident.specs.declared.event.Event.{Event}
 use Rattle.cd_top.specs.declared.status.Status.{Status}
 use Rattle.cd_top.specs.declared.status.Status.TheVariants as status
-use Rattle.cd_packet.proofs.Records.{pcap-magic, pcap-none}
+use Rattle.cd_pcap.proofs.Records.{pcap-magic, pcap-none}
 use Rattle.cd_packet.proofs.Growing.{has_magic-few}
-use Rattle.cd_top.proofs.Judging.{served-append, served-count, other-append, other-not_read, status_said-few, status_said-other}
+use Rattle.cd_top.proofs.StatusSaid.{served-append, served-count, other-append, other-not_read, status_said-few, status_said-other}
 
 -- what the packets that can all be compacted and the end say
-drained : (fed : List ℕ) (given : List Packet) (e : EndState) → first_unserved 0 given ≡ None → (pcap fed).packets ≡ given → e ≡ (pcap fed).end →
+packets_taken : (fed : List ℕ) (given : List Packet) (e : EndState) → first_unserved 0 given ≡ None → (pcap fed).packets ≡ given → e ≡ (pcap fed).end →
     status_of_capture (pcap fed) ≡ status_of_end e
-drained fed given e served packets end =
+packets_taken fed given e served packets end =
     ap (λ ps. status_of_packets (first_unserved 0 ps) (pcap fed).end) packets ∙ ap (λ o. status_of_packets o (pcap fed).end) served
     ∙ ap status_of_end (sym end)
 
 -- the end of bytes whose packets can all be compacted
-pub drains_end : (i : Intake) (fed : List ℕ) (given : List Packet) (e : EndState) → first_unserved 0 given ≡ None → map parts_of i.events ≡ events_of given →
-    i.first.items ≡ take 4 fed → StandsFor i.reader fed given → (pcap fed).packets ≡ given → e ≡ (pcap fed).end → Drains i fed (status_of_end e)
-drains_end i fed given Whole served found first stands packets end = (
+pub packets_end : (i : CaptureEvents) (fed : List ℕ) (given : List Packet) (e : EndState) → first_unserved 0 given ≡ None → map parts_of i.events ≡ events_of given →
+    i.first.items ≡ take 4 fed → StandsFor i.reader fed given → (pcap fed).packets ≡ given → e ≡ (pcap fed).end → TakesPackets i fed (status_of_end e)
+packets_end i fed given Whole served found first stands packets end = (
   record { given = given; stands = stands; served = served; events = found; first = first },
-  drained fed given Whole served packets end,
+  packets_taken fed given Whole served packets end,
   found ∙ sym (ap events_of packets),
 )
-drains_end i fed given Cut served found first stands packets end = (
+packets_end i fed given Cut served found first stands packets end = (
   record { given = given; stands = stands; served = served; events = found; first = first },
-  drained fed given Cut served packets end,
+  packets_taken fed given Cut served packets end,
   found ∙ sym (ap events_of packets),
 )
-drains_end i fed given (Bad b) served found first stands packets end = (
-  drained fed given (Bad b) served packets end,
+packets_end i fed given (Bad b) served found first stands packets end = (
+  packets_taken fed given (Bad b) served packets end,
   found ∙ sym (ap events_of (packets_before fed b (sym end) ∙ packets)),
 )
 
@@ -57,11 +57,11 @@ some_chosen false o = refl
 served_is : (n : ℕ) (p : Packet) → is_some (served_event n p) ≡ is_served n p
 served_is n p = some_chosen (nat_lt n most_packets) (event_of p)
 
--- a packet that can't be compacted behind those that can
-pub drains_unserved : (before : List Event) (r : Kept) (fed : List ℕ) (given : List Packet) (p : Packet) → first_unserved 0 given ≡ None → map parts_of before ≡ events_of given →
+-- a packet that can't be compacted after those that can
+pub packets_unserved : (before : List Event) (r : Kept) (fed : List ℕ) (given : List Packet) (p : Packet) → first_unserved 0 given ≡ None → map parts_of before ≡ events_of given →
     StandsFor r fed (given ++ p ∷ []) → (pcap (take p.at fed)).packets ≡ given → None ≡ served_event (length before) p →
     (status_of_capture (pcap fed) ≡ Some (status.NotYet p.at)) × (map parts_of before ≡ events (take p.at fed))
-drains_unserved before r fed given p served found stands packets_before none =
+packets_unserved before r fed given p served found stands packets_before none =
     let k = given_first r fed (given ++ p ∷ []) stands in
     let count : length before ≡ length given = sym (length-map before parts_of) ∙ ap length found ∙ served-count 0 given served in
     let unserved : is_served (0 + length given) p ≡ false =
@@ -78,8 +78,8 @@ event_some : (b : Bool) (o : Option EventParts) (q : EventParts) → Some q ≡ 
 event_some true o q e = (refl, sym e)
 event_some false o q e = absurd cc
 
--- a packet that can be compacted behind those that can
-pub follows_served : (i : Intake) (fed : List ℕ) (given : List Packet) (p : Packet) (e : Event) (before : List Event) → first_unserved 0 given ≡ None →
+-- a packet that can be compacted after those that can
+pub follows_served : (i : CaptureEvents) (fed : List ℕ) (given : List Packet) (p : Packet) (e : Event) (before : List Event) → first_unserved 0 given ≡ None →
     map parts_of before ≡ events_of given → StandsFor i.reader fed (given ++ p ∷ []) → i.first.items ≡ take 4 fed →
     Some (parts_of e) ≡ served_event (length before) p → i.events ≡ before ++ e ∷ [] → Follows i fed
 follows_served i fed given p e before served found stands first some pushed =
@@ -99,17 +99,17 @@ follows_served i fed given p e before served found stands first some pushed =
     }
 
 -- what the packets say, the bytes say
-pub judges_drained : (told_end : Bool) (i : Intake) (fed : List ℕ) (said : Option Status) → status_said told_end fed ≡ status_of_capture (pcap fed) → Drains i fed said →
-    Judges told_end i fed said
-judges_drained told_end i fed None same d = (d.0, same ∙ d.1, d.2)
-judges_drained told_end i fed (Some s) same d = (same ∙ d.0, d.1)
+pub says_taken : (told_end : Bool) (i : CaptureEvents) (fed : List ℕ) (said : Option Status) → status_said told_end fed ≡ status_of_capture (pcap fed) → TakesPackets i fed said →
+    SaysStatus told_end i fed said
+says_taken told_end i fed None same d = (d.0, same ∙ d.1, d.2)
+says_taken told_end i fed (Some s) same d = (same ∙ d.0, d.1)
 
 -- as many of the first four bytes are kept as were fed
-pub first_count : (i : Intake) (fed : List ℕ) → Follows i fed → length i.first.items ≡ min 4 (length fed)
+pub first_count : (i : CaptureEvents) (fed : List ℕ) → Follows i fed → length i.first.items ≡ min 4 (length fed)
 first_count i fed f = ap length f.first ∙ length-take 4 fed
 
 -- the first four bytes decide the format
-pub other_first : (i : Intake) (fed : List ℕ) → Follows i fed → 4 ≤ length i.first.items → is_other_format i.first.items ≡ is_other_format fed
+pub other_first : (i : CaptureEvents) (fed : List ℕ) → Follows i fed → 4 ≤ length i.first.items → is_other_format i.first.items ≡ is_other_format fed
 other_first i fed f four =
     let size : length (take 4 fed) ≡ length i.first.items = ap length (sym f.first) in
     ap is_other_format f.first ∙ sym (other-append (take 4 fed) (drop 4 fed) (omega arith)) ∙ ap is_other_format (take-append-drop 4 fed)
@@ -119,24 +119,24 @@ none_of_none [] rest e = refl
 none_of_none (p ∷ ps) rest e = absurd cc
 
 -- bytes with another magic have given no packet
-none_given : (i : Intake) (fed : List ℕ) → (f : Follows i fed) → is_little_micro fed ≡ false → map parts_of i.events ≡ events_of (pcap fed).packets
+none_given : (i : CaptureEvents) (fed : List ℕ) → (f : Follows i fed) → is_little_micro fed ≡ false → map parts_of i.events ≡ events_of (pcap fed).packets
 none_given i fed f other =
     let k = given_first i.reader fed f.given f.stands in
     let none : (pcap fed).packets ≡ [] = ap (λ (c : Capture). c.packets) (pcap-magic fed other) in
     f.events ∙ ap events_of (none_of_none f.given k.0 (sym none ∙ k.1)) ∙ sym (ap events_of none)
 
 -- fewer than four bytes say nothing before the end
-pub judges_few : (i : Intake) (fed : List ℕ) → Follows i fed → length fed < 4 → Judges false i fed None
-judges_few i fed f few = (f, status_said-few fed few, none_given i fed f (has_magic-few 0xa1b2c3d4 fed few))
+pub says_few : (i : CaptureEvents) (fed : List ℕ) → Follows i fed → length fed < 4 → SaysStatus false i fed None
+says_few i fed f few = (f, status_said-few fed few, none_given i fed f (has_magic-few 0xa1b2c3d4 fed few))
 
 -- bytes of another format have no packet, and the bytes before offset 0 have no event
-pub judges_other : (told_end : Bool) (i : Intake) (fed : List ℕ) → Follows i fed → 4 ≤ length fed → is_other_format fed ≡ true →
-    Judges told_end i fed (Some (status.NotYet 0))
-judges_other told_end i fed f four other =
+pub says_other : (told_end : Bool) (i : CaptureEvents) (fed : List ℕ) → Follows i fed → 4 ≤ length fed → is_other_format fed ≡ true →
+    SaysStatus told_end i fed (Some (status.NotYet 0))
+says_other told_end i fed f four other =
     let little : is_little_micro fed ≡ false = other-not_read fed four other in
     let same : (pcap fed).packets ≡ (pcap []).packets = ap (λ (c : Capture). c.packets) (pcap-magic fed little ∙ sym pcap-none) in
     (status_said-other told_end fed four other, none_given i fed f little ∙ ap events_of same)
 
 -- no byte has no event
-pub none_events : (i : Intake) → Follows i [] → map parts_of i.events ≡ events []
+pub none_events : (i : CaptureEvents) → Follows i [] → map parts_of i.events ≡ events []
 none_events i f = none_given i [] f (has_magic-few 0xa1b2c3d4 [] (omega arith))

@@ -1,4 +1,4 @@
--- A value keeps its place as a table grows, so the tables grown item by item are those of the whole block.
+-- A value keeps its index as a table grows, so the tables grown item by item are those of the whole block.
 use Rattle.std.proofs.Common.{◌≡◌, ℕ, ◌≤◌, Bool, true, false, not, cond, List, [], ◌∷◌, ◌++◌, length, take, Option, Some, None, unwrap_or, position, is_some, fold, map, Decides, refl, ap, sym, ◌∙◌, arith}
 use Rattle.std.proofs.lemmas.List.Folds.{position_or_len_push}
 use Rattle.std.proofs.lemmas.List.Sums.{prefix_len-le-length}
@@ -9,8 +9,8 @@ use Rattle.std.proofs.lemmas.Bool.{and_parts}
 use Rattle.std.proofs.lemmas.Bool.Decides.{nat_tests}
 use Rattle.std.specs.List.{flat_map}
 use Rattle.cd_top.specs.Kept.{KeptItem, kept_item, kept_block, earliest_tick, stamp_of, statistics}
-use Rattle.cd_top.specs.Tables.{table_of, place_in, same_address, same_sig, indexed_block, indexed_sig, indexed_item}
-use Rattle.cd_top.specs.Interning.{put, placed_sig, no_tables, put_item}
+use Rattle.cd_top.specs.Tables.{table_of, index_in, same_address, same_sig, indexed_block, indexed_sig, indexed_item}
+use Rattle.cd_top.specs.Interning.{put, sig_at, no_tables, put_item}
 use Rattle.cd_top.specs.declared.block.Block.{Block}
 use Rattle.cd_top.specs.declared.block.BlockItem.{BlockItem}
 use Rattle.cd_top.specs.declared.block.Stamp.{Stamp}
@@ -28,7 +28,7 @@ position-push p xs y k h = grind (arith, common_steps, position_or_len_push)
 position-own : {T : Type 0} (p : T → Bool) (xs : List T) (y : T) → p y ≡ true → position p xs ≡ None → position p (xs ++ y ∷ []) ≡ Some (length xs)
 position-own p xs y q h = grind (arith, common_steps, position_or_len_push, prefix_len-le-length (λ x. not (p x)) xs)
 
--- a table that takes a value keeps the places of the others
+-- a table that takes a value keeps the indexes of the others
 position-put : {T : Type 0} (same : T → T → Bool) (table : List T) (x y : T) (k : ℕ) → position (same y) table ≡ Some k → position (same y) (put same table x) ≡ Some k
 position-put same table x y k h =
     let pushed = position-push (same y) table x k h in
@@ -38,7 +38,7 @@ position-put same table x y k h =
     ]
 
 -- a value that a table takes is found where it was or is put last
-position-put_own : {T : Type 0} (same : T → T → Bool) (table : List T) (x : T) → same x x ≡ true → position (same x) (put same table x) ≡ Some (place_in same table x)
+position-put_own : {T : Type 0} (same : T → T → Bool) (table : List T) (x : T) → same x x ≡ true → position (same x) (put same table x) ≡ Some (index_in same table x)
 position-put_own same table x itself =
     let P : Option ℕ → Type 0 =
     λ o. position (same x) table ≡ o → position (same x) (cond (is_some o) table (table ++ x ∷ [])) ≡ Some (unwrap_or o (length table)) in
@@ -46,17 +46,17 @@ position-put_own same table x itself =
     λ o. elim o as P [ None ↦ λ h. position-own (same x) table x itself h | Some k ↦ λ h. h ] in
     cases (position (same x) table) refl
 
--- a table that takes many values keeps the places
+-- a table that takes many values keeps the indexes
 position-fold : {T : Type 0} (same : T → T → Bool) (table xs : List T) (y : T) (k : ℕ) → position (same y) table ≡ Some k → position (same y) (fold (put same) table xs) ≡ Some k
 position-fold same table [] y k h = h
 position-fold same table (x ∷ xs) y k h = position-fold same (put same table x) xs y k (position-put same table x y k h)
 
--- the place where a value was put is its place in the table at the end
-place_in-fold : {T : Type 0} (same : T → T → Bool) (table xs : List T) (x : T) → same x x ≡ true → place_in same (fold (put same) (put same table x) xs) x ≡ place_in same table x
-place_in-fold {T} same table xs x itself =
+-- the index where a value was put is its index in the table at the end
+index_in-fold : {T : Type 0} (same : T → T → Bool) (table xs : List T) (x : T) → same x x ≡ true → index_in same (fold (put same) (put same table x) xs) x ≡ index_in same table x
+index_in-fold {T} same table xs x itself =
     let last : List T = fold (put same) (put same table x) xs in
-    let found : position (same x) last ≡ Some (place_in same table x) =
-    position-fold same (put same table x) xs x (place_in same table x) (position-put_own same table x itself) in
+    let found : position (same x) last ≡ Some (index_in same table x) =
+    position-fold same (put same table x) xs x (index_in same table x) (position-put_own same table x itself) in
     ap (λ o. unwrap_or o (length last)) found
 
 -- an address is the same as itself
@@ -106,9 +106,9 @@ unfolding put_item
 signatures-fold t [] = refl
 signatures-fold t (i ∷ is) = signatures-fold (put_item t i) is
 
--- an item whose client's address and signature have these places
-abbrev placed_item : ℕ → ℕ → KeptItem → BlockItem
-placed_item client signature i = record {
+-- an item whose client's address and signature have these indexes
+abbrev item_at : ℕ → ℕ → KeptItem → BlockItem
+item_at client signature i = record {
   time_offset = i.time_offset;
   client_address = client;
   client_port = i.client_port;
@@ -120,15 +120,15 @@ placed_item client signature i = record {
   response_size = i.response_size;
 }
 
--- an item's places as it is put are those in the last tables
+-- an item's indexes as it is put are those in the last tables
 indexed_item-last : (t : Tables) (i : KeptItem) (is : List KeptItem) → indexed_item t.addresses t.signatures i ≡ indexed_item (last_addresses t (i ∷ is)) (last_sigs t (i ∷ is)) i
 indexed_item-last t i is =
-    let client = place_in-fold same_address t.addresses (i.signature.server_address ∷ addresses_of is) i.client_address (same_address-itself i.client_address) in
-    let signature = place_in-fold same_sig t.signatures (sigs_of is) i.signature (same_sig-itself i.signature) in
-    ap (λ p. placed_item p (place_in same_sig t.signatures i.signature) i) (sym client)
-    ∙ ap (λ p. placed_item (place_in same_address (last_addresses t (i ∷ is)) i.client_address) p i) (sym signature)
+    let client = index_in-fold same_address t.addresses (i.signature.server_address ∷ addresses_of is) i.client_address (same_address-itself i.client_address) in
+    let signature = index_in-fold same_sig t.signatures (sigs_of is) i.signature (same_sig-itself i.signature) in
+    ap (λ p. item_at p (index_in same_sig t.signatures i.signature) i) (sym client)
+    ∙ ap (λ p. item_at (index_in same_address (last_addresses t (i ∷ is)) i.client_address) p i) (sym signature)
 
--- the items put have their places in the last tables
+-- the items put have their indexes in the last tables
 items-fold : (t : Tables) (items : List KeptItem) → (fold put_item t items).items ≡ t.items ++ map (indexed_item (last_addresses t items) (last_sigs t items)) items
 unfolding put_item
 items-fold t [] = sym (append-nil t.items)
@@ -138,23 +138,23 @@ items-fold t (i ∷ is) =
     ∙ append_assoc t.items (indexed_item t.addresses t.signatures i ∷ []) rest
     ∙ ap (λ x. t.items ++ (x ∷ rest)) (indexed_item-last t i is)
 
--- a signature's place as it is put is that in the last table
+-- a signature's index as it is put is that in the last table
 block_signatures-put : (t : Tables) (i : KeptItem) (is : List KeptItem) → t.block_signatures ≡ map (indexed_sig (last_addresses t (i ∷ is))) t.signatures → (put_item t i).block_signatures ≡ map (indexed_sig (last_addresses t (i ∷ is))) (put_item t i).signatures
 unfolding put_item
 block_signatures-put t i is h =
     let last : List (List ℕ) = last_addresses t (i ∷ is) in
     let with_client : List (List ℕ) = put same_address t.addresses i.client_address in
     let s : Sig = i.signature in
-    let place = place_in-fold same_address with_client (addresses_of is) s.server_address (same_address-itself s.server_address) in
-    elim (is_some (position (same_sig s) t.signatures)) as (λ b. cond b t.block_signatures (t.block_signatures ++ placed_sig (place_in same_address with_client s.server_address) s ∷ []) ≡ map (indexed_sig last) (cond b t.signatures (t.signatures ++ s ∷ []))) [
+    let index = index_in-fold same_address with_client (addresses_of is) s.server_address (same_address-itself s.server_address) in
+    elim (is_some (position (same_sig s) t.signatures)) as (λ b. cond b t.block_signatures (t.block_signatures ++ sig_at (index_in same_address with_client s.server_address) s ∷ []) ≡ map (indexed_sig last) (cond b t.signatures (t.signatures ++ s ∷ []))) [
       | true ↦ h
       | false ↦
-          ap (λ xs. xs ++ placed_sig (place_in same_address with_client s.server_address) s ∷ []) h
-          ∙ ap (λ p. map (indexed_sig last) t.signatures ++ placed_sig p s ∷ []) (sym place)
+          ap (λ xs. xs ++ sig_at (index_in same_address with_client s.server_address) s ∷ []) h
+          ∙ ap (λ p. map (indexed_sig last) t.signatures ++ sig_at p s ∷ []) (sym index)
           ∙ sym (map_push (indexed_sig last) t.signatures s)
     ]
 
--- the block's signatures have their places in the last table
+-- the block's signatures have their indexes in the last table
 block_signatures-fold : (t : Tables) (items : List KeptItem) → t.block_signatures ≡ map (indexed_sig (last_addresses t items)) t.signatures → (fold put_item t items).block_signatures ≡ map (indexed_sig (last_addresses t items)) (fold put_item t items).signatures
 unfolding put_item
 block_signatures-fold t [] h = h
@@ -170,9 +170,9 @@ block_with earliest stats t = record {
   qr_sig = t.block_signatures;
 }
 
--- a block whose values have their places in these tables
-abbrev placed_block : Stamp → Stats → List KeptItem → List (List ℕ) → List Sig → Block
-placed_block earliest stats items addresses sigs = record {
+-- a block whose values have their indexes in these tables
+abbrev block_at : Stamp → Stats → List KeptItem → List (List ℕ) → List Sig → Block
+block_at earliest stats items addresses sigs = record {
   earliest = earliest;
   stats = stats;
   items = map (indexed_item addresses sigs) items;
@@ -189,10 +189,10 @@ block_with-fold earliest stats items =
     let signatures = signatures-fold no_tables items in
     let placed = block_signatures-fold no_tables items refl in
     let kept = items-fold no_tables items in
-    let built : block_with earliest stats t ≡ placed_block earliest stats items (last_addresses no_tables items) (last_sigs no_tables items) = cc in
+    let built : block_with earliest stats t ≡ block_at earliest stats items (last_addresses no_tables items) (last_sigs no_tables items) = cc in
     built
-    ∙ ap (λ a. placed_block earliest stats items a (last_sigs no_tables items)) (fold_put same_address bytes_eq-Decides (addresses_of items))
-    ∙ ap (λ s. placed_block earliest stats items (table_of same_address (addresses_of items)) s) (fold_put same_sig same_sig-Decides (sigs_of items))
+    ∙ ap (λ a. block_at earliest stats items a (last_sigs no_tables items)) (fold_put same_address bytes_eq-Decides (addresses_of items))
+    ∙ ap (λ s. block_at earliest stats items (table_of same_address (addresses_of items)) s) (fold_put same_sig same_sig-Decides (sigs_of items))
 
 -- the tables grown exchange by exchange, with what else stands in the block
 pub block_with-exchanges : (xs : List Exchange) (processed count earliest : ℕ) (stamp : Stamp) (stats : Stats) (t : Tables) → length xs ≤ count → earliest ≡ earliest_tick xs → stamp ≡ stamp_of earliest → stats ≡ statistics processed xs → t ≡ fold put_item no_tables (map (kept_item earliest) (take count xs)) → record { earliest = stamp; stats = stats; items = t.items; ip_address = t.addresses; qr_sig = t.block_signatures } ≡ indexed_block (kept_block processed xs)

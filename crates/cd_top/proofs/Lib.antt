@@ -1,5 +1,5 @@
 pub mod Places
-pub mod Judging
+pub mod StatusSaid
 pub mod Following
 pub mod Waiting
 pub mod Light

@@ -6,14 +6,14 @@ use Rattle.std.proofs.lemmas.Bool.{cases_Bool, eqb-true}
 use Rattle.std.proofs.lemmas.List.{length-take}
 use Rattle.std.proofs.lemmas.List.Sums.{sum_by-cons}
 use Rattle.cd_pairing.specs.Events.{EventView}
-use Rattle.cd_ident.proofs.WeightBounds.{event_weights_are_bounded}
+use Rattle.cd_ident.proofs.WeightBounds.{event_weights_are_linear}
 use Rattle.cd_ident.specs.Events.{EventParts, event_parts}
 use Rattle.cd_ident.specs.Keys.{parts_of, view_of}
 use Rattle.cd_ident.specs.declared.event.Event.{Event}
 use Rattle.cd_packet.specs.Layers.{Datagram, Found, datagram, skipped, layer_of}
-use Rattle.cd_packet.specs.Pcap.{pcap}
+use Rattle.cd_pcap.specs.Pcap.{pcap}
 use Rattle.cd_packet.specs.declared.packet.Packet.{Packet}
-use Rattle.cd_packet.proofs.Extending.{pcap-within}
+use Rattle.cd_pcap.proofs.Extending.{pcap-within}
 use Rattle.cd_top.specs.Endings.{used_bytes, StopsReading}
 use Rattle.cd_top.specs.Events.{dns_port, event_rules, is_header_alone, event_found, event_of, events_of, events}
 use Rattle.cd_top.specs.Gathered.{Gathers}
@@ -23,7 +23,7 @@ use Rattle.cd_top.specs.declared.status.Status.TheVariants as status
 
 -- the weight of an event of a header alone
 parts_weight : (d : Datagram) → length d.payload ≡ 12 → (event_parts event_rules d).weight ≤ 3400000
-parts_weight d twelve = (event_weights_are_bounded event_rules d (omega arith)).greatest
+parts_weight d twelve = omega (arith, event_weights_are_linear event_rules d, twelve)
 
 both_front : (b c : Bool) → (b && c) ≡ true → b ≡ true
 both_front true c e = refl

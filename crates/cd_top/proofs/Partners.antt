@@ -11,7 +11,7 @@ led : (b : Bool) (r : Record) (all front back : List Record) → all ≡ front +
 led true r all front back e = ap (λ (t : List Record). r ∷ t) e
 led false r all front back e = e
 
--- one partner more gives its record, if it has one, behind the others
+-- one partner more gives its record, if it has one, after the others
 records-push : (i : ℕ) (ps : List (Option ℕ)) (p : Option ℕ) → records_from i (ps ++ p ∷ []) ≡ records_from i ps ++ records_from (i + length ps) (p ∷ [])
 records-push i [] p = let e : i ≡ i + 0 = omega arith in ap (λ (k : ℕ). records_from k (p ∷ [])) e
 records-push i (None ∷ ps) p =
@@ -50,6 +50,6 @@ exchanges-second events ps i j h is less =
     ∙ ap (λ (b : Bool). exchanges events (take i ps) ++ map (exchange_of events) (cond b (pair i j ∷ []) [])) (le-ltb i j less)
     ∙ append-nil (exchanges events (take i ps))
 
--- a value that is put behind others
+-- a value that is put after others
 pub pushed : {T : Type 0} (now before wanted whole : List T) (x y : T) → now ≡ before ++ x ∷ [] → before ≡ wanted → x ≡ y → whole ≡ wanted ++ y ∷ [] → now ≡ whole
 pushed now before wanted whole x y put begun same is = put ∙ ap (λ t. t ++ x ∷ []) begun ∙ ap (λ v. wanted ++ v ∷ []) same ∙ sym is

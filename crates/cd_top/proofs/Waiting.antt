@@ -4,19 +4,19 @@ use Rattle.std.specs.Prelude.{unwrap_or, OnErr, ◌||◌, ◌&&◌, nat_eq, zero
 use Rattle.std.proofs.lemmas.Bool.{cases_lt, cases_Bool, false≢true}
 use Rattle.std.proofs.lemmas.List.{append-nil}
 use Rattle.std.specs.Io.KnownBytes.{Consumes, Keeps}
-use Rattle.cd_packet.specs.Pcap.{pcap}
-use Rattle.cd_packet.proofs.Extending.{pcap-few}
+use Rattle.cd_pcap.specs.Pcap.{pcap}
+use Rattle.cd_pcap.proofs.Extending.{pcap-few}
 use Rattle.cd_ports.proofs.Steps.{consumes_then, consumes_none, consumes_kept, keeps_same}
 use Rattle.cd_top.specs.Events.{events}
-use Rattle.cd_top.specs.Gathered.{Follows, Judges, Gathers, IsEnding}
+use Rattle.cd_top.specs.Gathered.{Follows, SaysStatus, Gathers, IsEnding}
 use Rattle.cd_top.specs.Endings.{is_other_format, status_said, ended_by, used_bytes, most_taken, StopsReading}
 use Rattle.cd_top.specs.declared.gathering.Gathered.{Gathered}
-use Rattle.cd_top.specs.declared.intake.Intake.{Intake}
+use Rattle.cd_top.specs.declared.capture_events.CaptureEvents.{CaptureEvents}
 use Rattle.cd_ident.specs.declared.event.Event.{Event}
 use Rattle.cd_ident.specs.Keys.{parts_of}
 use Rattle.cd_top.specs.declared.status.Status.{Status}
 use Rattle.cd_top.specs.declared.status.Status.TheVariants as status
-use Rattle.cd_top.proofs.Judging.{served-few, status_said-none, status_said-other, status_said-read, unsaid-capture, IsNoEnd, status_said-no_end, status_said-ending}
+use Rattle.cd_top.proofs.StatusSaid.{served-few, status_said-none, status_said-other, status_said-read, unsaid-capture, IsNoEnd, status_said-no_end, status_said-ending}
 use Rattle.cd_ports.specs.Counter.{next_count}
 use Rattle.cd_top.proofs.Following.{none_events}
 
@@ -35,42 +35,42 @@ unsaid-few bytes none =
     ]
 
 -- Some bytes were taken and say nothing yet. Their events are there, and so many more bytes may be taken.
-pub record Awaits (old now : Option (List ℕ)) (intake : Intake) (room : ℕ) : Type 0 where
+pub record Awaits (old now : Option (List ℕ)) (capture : CaptureEvents) (room : ℕ) : Type 0 where
   pub taken : List ℕ
   pub took : Consumes old now taken
-  pub follows : Follows intake taken
+  pub follows : Follows capture taken
   pub unsaid : status_said false taken ≡ None
-  pub events : map parts_of intake.events ≡ events taken
+  pub events : map parts_of capture.events ≡ events taken
   pub count : length taken + room ≡ most_taken
 
-pub awaits_room : (old now : Option (List ℕ)) (intake : Intake) (room : ℕ) → Awaits old now intake room → 0 < room
-awaits_room old now intake room h = let few = unsaid-few h.taken h.unsaid in omega (arith, h.count)
+pub awaits_room : (old now : Option (List ℕ)) (capture : CaptureEvents) (room : ℕ) → Awaits old now capture room → 0 < room
+awaits_room old now capture room h = let few = unsaid-few h.taken h.unsaid in omega (arith, h.count)
 
 -- what was taken before a read is read in time
-pub awaits_stops : (old now : Option (List ℕ)) (intake : Intake) (room : ℕ) → (h : Awaits old now intake room) → StopsReading h.taken
-awaits_stops old now intake room h = record {
+pub awaits_stops : (old now : Option (List ℕ)) (capture : CaptureEvents) (room : ℕ) → (h : Awaits old now capture room) → StopsReading h.taken
+awaits_stops old now capture room h = record {
   before = h.taken;
   last = [];
   split = sym (append-nil h.taken);
-  piece = omega arith;
+  chunk = omega arith;
   undecided = h.unsaid;
   few = omega (arith, h.count);
 }
 
 -- nothing was taken
-pub awaits_none : (left : Option (List ℕ)) (intake : Intake) → Follows intake [] → Awaits left left intake most_taken
-awaits_none left intake f = record {
+pub awaits_none : (left : Option (List ℕ)) (capture : CaptureEvents) → Follows capture [] → Awaits left left capture most_taken
+awaits_none left capture f = record {
   taken = [];
   took = consumes_none left left (keeps_same left);
   follows = f;
   unsaid = status_said-none;
-  events = none_events intake f;
+  events = none_events capture f;
   count = omega arith;
 }
 
 -- to take nothing is to stop in time
 pub none_stops : StopsReading []
-none_stops = record { before = []; last = []; split = refl; piece = omega arith; undecided = status_said-none; few = omega arith }
+none_stops = record { before = []; last = []; split = refl; chunk = omega arith; undecided = status_said-none; few = omega arith }
 
 -- what a run took that was refused memory at its start
 pub took_none : (left : Option (List ℕ)) → (taken : List ℕ) × Consumes left left taken × StopsReading taken
@@ -80,40 +80,40 @@ took_none left = ([], consumes_none left left (keeps_same left), none_stops)
 abbrev pub Ends : Option (List ℕ) → Option (List ℕ) → Bool → Gathered → Type 0
 Ends old now told_end g = (taken : List ℕ) × Consumes old now taken × (Gathers taken told_end g × StopsReading taken)
 
--- what is known once a piece was taken
-pub record Taken (old now : Option (List ℕ)) (intake : Intake) (room : ℕ) : Type 0 where
+-- what is known once a chunk was taken
+pub record Taken (old now : Option (List ℕ)) (capture : CaptureEvents) (room : ℕ) : Type 0 where
   pub taken : List ℕ
   pub took : Consumes old now taken
-  pub follows : Follows intake taken
+  pub follows : Follows capture taken
   pub count : length taken + room ≡ most_taken
   pub stops : StopsReading taken
 
--- a piece was taken, whether memory was found for it or not
-pub took_piece : (old a b : Option (List ℕ)) (i : Intake) (room n : ℕ) (piece : List ℕ) → Awaits old a i room → Consumes a b piece → length piece ≡ n → n ≤ room →
+-- a chunk was taken, whether memory was found for it or not
+pub took_chunk : (old a b : Option (List ℕ)) (i : CaptureEvents) (room n : ℕ) (chunk : List ℕ) → Awaits old a i room → Consumes a b chunk → length chunk ≡ n → n ≤ room →
     n ≤ 65536 → (taken : List ℕ) × Consumes old b taken × StopsReading taken
-took_piece old a b i room n piece h took size within small = (
-  h.taken ++ piece,
-  consumes_then old a b h.taken piece h.took took,
+took_chunk old a b i room n chunk h took size within small = (
+  h.taken ++ chunk,
+  consumes_then old a b h.taken chunk h.took took,
   record {
     before = h.taken;
-    last = piece;
+    last = chunk;
     split = refl;
-    piece = omega arith;
+    chunk = omega arith;
     undecided = h.unsaid;
-    few = omega (arith, h.count, length-append h.taken piece);
+    few = omega (arith, h.count, length-append h.taken chunk);
   },
 )
 
-pub taken_piece : (old a b : Option (List ℕ)) (i j : Intake) (room n : ℕ) (piece : List ℕ) → Awaits old a i room → Consumes a b piece → length piece ≡ n → n ≤ room →
-    n ≤ 65536 → ((fed : List ℕ) → Follows i fed → Follows j (fed ++ piece)) → Taken old b j (room - n)
-unfolding took_piece
-taken_piece old a b i j room n piece h took size within small step =
-    let t = took_piece old a b i room n piece h took size within small in
+pub taken_chunk : (old a b : Option (List ℕ)) (i j : CaptureEvents) (room n : ℕ) (chunk : List ℕ) → Awaits old a i room → Consumes a b chunk → length chunk ≡ n → n ≤ room →
+    n ≤ 65536 → ((fed : List ℕ) → Follows i fed → Follows j (fed ++ chunk)) → Taken old b j (room - n)
+unfolding took_chunk
+taken_chunk old a b i j room n chunk h took size within small step =
+    let t = took_chunk old a b i room n chunk h took size within small in
     record {
-      taken = h.taken ++ piece;
+      taken = h.taken ++ chunk;
       took = t.1;
       follows = step h.taken h.follows;
-      count = omega (arith, h.count, length-append h.taken piece);
+      count = omega (arith, h.count, length-append h.taken chunk);
       stops = t.2;
     }
 
@@ -121,21 +121,21 @@ ended_as_told : (t : Bool) (bytes : List ℕ) (s : Status) → status_said t byt
 ended_as_told t bytes s e = rw e refl
 
 -- the bytes say how the run ends
-pub ends_said : (old now : Option (List ℕ)) (i j : Intake) (room : ℕ) (told_end : Bool) (s : Status) → Taken old now i room →
-    ((fed : List ℕ) → Follows i fed → Judges told_end j fed (Some s)) → Ends old now told_end (record { status = s; events = j.events })
-ends_said old now i j room told_end s h judges =
-    let k = judges h.taken h.follows in
+pub ends_said : (old now : Option (List ℕ)) (i j : CaptureEvents) (room : ℕ) (told_end : Bool) (s : Status) → Taken old now i room →
+    ((fed : List ℕ) → Follows i fed → SaysStatus told_end j fed (Some s)) → Ends old now told_end (record { status = s; events = j.events })
+ends_said old now i j room told_end s h says =
+    let k = says h.taken h.follows in
     (h.taken, h.took, (record { status = ended_as_told told_end h.taken s k.0; events = k.1 }, h.stops))
 
 -- the bytes say nothing at their end
-pub ends_done : (old now : Option (List ℕ)) (i j : Intake) (room : ℕ) → Taken old now i room →
-    ((fed : List ℕ) → Follows i fed → Judges true j fed None) → Ends old now true (record { status = status.Done; events = j.events })
-ends_done old now i j room h judges =
-    let k = judges h.taken h.follows in
+pub ends_done : (old now : Option (List ℕ)) (i j : CaptureEvents) (room : ℕ) → Taken old now i room →
+    ((fed : List ℕ) → Follows i fed → SaysStatus true j fed None) → Ends old now true (record { status = status.Done; events = j.events })
+ends_done old now i j room h says =
+    let k = says h.taken h.follows in
     (h.taken, h.took, (record { status = sym (ap (λ o. unwrap_or o status.Done) k.1); events = k.2 }, h.stops))
 
 -- the source failed, and the bytes say nothing yet
-pub ends_failed : (old a b : Option (List ℕ)) (i : Intake) (room : ℕ) → Awaits old a i room → Keeps a b → Ends old b false (record { status = status.ReadFault; events = i.events })
+pub ends_failed : (old a b : Option (List ℕ)) (i : CaptureEvents) (room : ℕ) → Awaits old a i room → Keeps a b → Ends old b false (record { status = status.ReadFault; events = i.events })
 ends_failed old a b i room h kept = (
   h.taken,
   consumes_kept old a b h.taken h.took kept,
@@ -143,17 +143,17 @@ ends_failed old a b i room h kept = (
 )
 
 -- the bytes say nothing yet
-pub awaits_more : (old now : Option (List ℕ)) (i j : Intake) (room : ℕ) → Taken old now i room →
-    ((fed : List ℕ) → Follows i fed → Judges false j fed None) → Awaits old now j room
-awaits_more old now i j room h judges =
-    let k = judges h.taken h.follows in
+pub awaits_more : (old now : Option (List ℕ)) (i j : CaptureEvents) (room : ℕ) → Taken old now i room →
+    ((fed : List ℕ) → Follows i fed → SaysStatus false j fed None) → Awaits old now j room
+awaits_more old now i j room h says =
+    let k = says h.taken h.follows in
     record { taken = h.taken; took = h.took; follows = k.0; unsaid = k.1; events = k.2; count = h.count }
 
 -- what the bytes say is an end of the reading, other than that of the source
-pub said_ending : (told_end : Bool) (old now : Option (List ℕ)) (i j : Intake) (room : ℕ) (s : Status) → Taken old now i room →
-    ((fed : List ℕ) → Follows i fed → Judges told_end j fed (Some s)) → IsNoEnd s × IsEnding s
-said_ending told_end old now i j room s h judges =
-    let k = judges h.taken h.follows in
+pub said_ending : (told_end : Bool) (old now : Option (List ℕ)) (i j : CaptureEvents) (room : ℕ) (s : Status) → Taken old now i room →
+    ((fed : List ℕ) → Follows i fed → SaysStatus told_end j fed (Some s)) → IsNoEnd s × IsEnding s
+said_ending told_end old now i j room s h says =
+    let k = says h.taken h.follows in
     (status_said-no_end told_end h.taken s k.0, status_said-ending told_end h.taken s k.0)
 
 -- the calls of the source stay within their bound

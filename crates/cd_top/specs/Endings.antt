@@ -5,7 +5,7 @@ use Rattle.cd_packet.specs.declared.capture.EndState.TheVariants.{Whole, Cut, Ba
 use Rattle.cd_packet.specs.declared.packet.Packet.{Packet}
 use Rattle.cd_packet.specs.Magic.{has_magic}
 use Rattle.cd_packet.specs.Capture.{Capture}
-use Rattle.cd_packet.specs.Pcap.{pcap}
+use Rattle.cd_pcap.specs.Pcap.{pcap}
 use Rattle.cd_top.specs.Events.{event_of}
 use Rattle.cd_top.specs.declared.status.Status.{Status}
 use Rattle.cd_top.specs.declared.status.Status.TheVariants as status
@@ -35,7 +35,7 @@ status_of_end Whole = None
 status_of_end Cut = None
 status_of_end (Bad b) = Some (status.BadCapture b)
 
--- A packet that can't be compacted stops the run, and behind all packets a refused place does.
+-- A packet that can't be compacted stops the run, and after all packets a refused place does.
 abbrev pub status_of_packets : Option ℕ → EndState → Option Status
 status_of_packets (Some at) end = Some (status.NotYet at)
 status_of_packets None end = status_of_end end
@@ -69,11 +69,11 @@ used_bytes status.NoMemory taken = taken
 abbrev pub most_taken : ℕ
 most_taken = 24 + (most_packets + 1) * 262160
 
--- Reading stops at the bytes that say how the run ends: before the last piece they did not say it.
+-- Reading stops at the bytes that say how the run ends: before the last chunk they did not say it.
 pub record StopsReading (taken : List ℕ) : Type 0 where
   pub before : List ℕ
   pub last : List ℕ
   pub split : taken ≡ before ++ last
-  pub piece : length last ≤ 65536
+  pub chunk : length last ≤ 65536
   pub undecided : status_said false before ≡ None
   pub few : length taken ≤ most_taken

@@ -6,7 +6,7 @@ use Rattle.cd_ident.specs.Events.{EventParts, event_parts}
 use Rattle.cd_ident.specs.Headers.{opcode_of}
 use Rattle.cd_ident.specs.declared.event_rules.EventRules.{EventRules}
 use Rattle.cd_packet.specs.Layers.{Datagram, Found, datagram, skipped, layer_of}
-use Rattle.cd_packet.specs.Pcap.{pcap}
+use Rattle.cd_pcap.specs.Pcap.{pcap}
 use Rattle.cd_packet.specs.declared.packet.Packet.{Packet}
 
 -- the port of DNS

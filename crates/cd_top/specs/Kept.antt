@@ -115,21 +115,21 @@ kept_item earliest x = record {
   response_size = option_map size_of x.response;
 }
 
--- whether an exchange is a query with no response
-abbrev pub is_unanswered : Exchange → Bool
-is_unanswered x = is_some x.query && not (is_some x.response)
+-- whether an exchange is an unmatched query: a query with no response
+abbrev pub is_unmatched_query : Exchange → Bool
+is_unmatched_query x = is_some x.query && not (is_some x.response)
 
--- whether an exchange is a response with no query
-abbrev pub is_unasked : Exchange → Bool
-is_unasked x = not (is_some x.query) && is_some x.response
+-- whether an exchange is an unmatched response: a response with no query
+abbrev pub is_unmatched_response : Exchange → Bool
+is_unmatched_response x = not (is_some x.query) && is_some x.response
 
 -- Each event is one processed message, and each exchange one item (RFC 8618 7.3.2.2).
 abbrev pub statistics : ℕ → List Exchange → Stats
 statistics processed xs = record {
   processed = processed;
   items = length xs;
-  unmatched_queries = count_by is_unanswered xs;
-  unmatched_responses = count_by is_unasked xs;
+  unmatched_queries = count_by is_unmatched_query xs;
+  unmatched_responses = count_by is_unmatched_response xs;
   discarded = 0;
   malformed = 0;
 }

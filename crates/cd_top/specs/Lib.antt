@@ -11,5 +11,5 @@ pub mod Filing
 pub mod Words
 pub mod Endings
 pub mod Gathered
-pub mod Pieces
+pub mod Chunks
 pub mod Run

@@ -14,9 +14,9 @@ abbrev pub table_of : {T : Type 0} → (T → T → Bool) → List T → List T
 table_of same [] = []
 table_of same (v ∷ vs) = v ∷ filter (λ w. not (same v w)) (table_of same vs)
 
--- the place of a value in a table
-abbrev pub place_in : {T : Type 0} → (T → T → Bool) → List T → T → ℕ
-place_in same table value = unwrap_or (position (same value) table) (length table)
+-- the index of a value in a table
+abbrev pub index_in : {T : Type 0} → (T → T → Bool) → List T → T → ℕ
+index_in same table value = unwrap_or (position (same value) table) (length table)
 
 -- whether two addresses are equal
 abbrev pub same_address : List ℕ → List ℕ → Bool
@@ -54,10 +54,10 @@ address_table b = table_of same_address (used_addresses b)
 abbrev pub sig_table : KeptBlock → List Sig
 sig_table b = table_of same_sig (used_sigs b)
 
--- the signature with the place of its address
+-- the signature with the index of its address
 abbrev pub indexed_sig : List (List ℕ) → Sig → BlockSig
 indexed_sig addresses s = record {
-  server_address = place_in same_address addresses s.server_address;
+  server_address = index_in same_address addresses s.server_address;
   server_port = s.server_port;
   transport_flags = s.transport_flags;
   sig_flags = s.sig_flags;
@@ -71,21 +71,21 @@ indexed_sig addresses s = record {
   response_rcode = s.response_rcode;
 }
 
--- the item with the places of its address and signature
+-- the item with the indexes of its address and signature
 abbrev pub indexed_item : List (List ℕ) → List Sig → KeptItem → BlockItem
 indexed_item addresses sigs i = record {
   time_offset = i.time_offset;
-  client_address = place_in same_address addresses i.client_address;
+  client_address = index_in same_address addresses i.client_address;
   client_port = i.client_port;
   transaction_id = i.transaction_id;
-  signature = place_in same_sig sigs i.signature;
+  signature = index_in same_sig sigs i.signature;
   client_hoplimit = i.client_hoplimit;
   response_delay = i.response_delay;
   query_size = i.query_size;
   response_size = i.response_size;
 }
 
--- the block with its tables, and with the place of each value that stands in one
+-- the block with its tables, and with the index of each value that stands in one
 unfoldable pub indexed_block : KeptBlock → Block
 indexed_block b = record {
   earliest = b.earliest;

@@ -28,13 +28,13 @@ pub struct Stats {
     pub malformed: u64,
 }
 
-/// A signature, with the place of its address (RFC 8618 7.3.2.3.2).
+/// A signature, with the index of its address (RFC 8618 7.3.2.3.2).
 #[derive(Clone, Copy, Debug, PartialEq, Eq)]
 pub struct BlockSig {
-    /// The place of the server's address in the table of addresses.
+    /// The index of the server's address in the table of addresses.
     pub server_address: u64,
     pub server_port: u16,
-    /// The version of IP and the transport, as bits: 0 is IPv4 and UDP, with nothing behind the message.
+    /// The version of IP and the transport, as bits: 0 is IPv4 and UDP, with nothing after the message.
     pub transport_flags: u8,
     /// What the item has, as bits.
     pub sig_flags: u8,
@@ -63,17 +63,17 @@ pub enum Delay {
     Before(u64),
 }
 
-/// An item of a block, with the places of its address and signature (RFC 8618 7.3.2.4).
+/// An item of a block, with the indexes of its address and signature (RFC 8618 7.3.2.4).
 #[derive(Clone, Copy, Debug, PartialEq, Eq)]
 pub struct BlockItem {
     /// Ticks since the earliest time of the block.
     pub time_offset: u64,
-    /// The place of the client's address in the table of addresses.
+    /// The index of the client's address in the table of addresses.
     pub client_address: u64,
     pub client_port: u16,
     /// The ID of the query's message, or else of the response's.
     pub transaction_id: u16,
-    /// The place of the signature in the table of signatures.
+    /// The index of the signature in the table of signatures.
     pub signature: u64,
     /// The time to live of the query's packet, where there is a query.
     pub client_hoplimit: Option<u8>,

@@ -4,7 +4,7 @@ ghost use Rattle.std.specs.Prelude.{ℕ, ◌<◌, ◌^◌, List, map};
 ghost use Rattle.std.specs.List.{sum_by};
 ghost use Rattle.cd_ident.specs.Keys.{parts_of, view_of};
 ghost use Rattle.cd_ports.specs.Writing.{OutputStep};
-ghost use Rattle.cd_top.specs.Filing.{default_windows, IsFileOf, EachListHasOneFile};
+ghost use Rattle.cd_top.specs.Filing.{default_windows, IsFileOf};
 
 use crate::exchange::exchanges_of;
 use crate::file_writing::write_exchanges;
@@ -13,8 +13,8 @@ use cd_pairing::{Windows, pair_all};
 use cd_ports::{Sink, SinkFault};
 use std::alloc::{AllocError, Global};
 
-/// How far apart the two events of an exchange may be: 5 s from a query to its response, 10 microseconds from a response to
-/// its query, 262,144 events and 268,435,456 bytes.
+// How far apart the two events of an exchange may be: 5 s from a query to its response, 10 microseconds from a response to
+// its query, 262,144 events and 268,435,456 bytes.
 const WINDOWS: Windows = Windows {
     query_ns: 5_000_000_000,
     skew_ns: 10_000,
@@ -40,8 +40,3 @@ pub fn write_events<K: Sink>(alloc: Global, events: &[Event], out: &mut K) -> Re
         Err(AllocError) => Err(SinkFault::NoMemory),
     }
 }
-
-/// A law: each list of events has exactly one file, whatever the windows. It does nothing.
-pub fn each_list_has_one_file()
-    ensures { EachListHasOneFile }
-{}

@@ -125,10 +125,10 @@ impl Exchange {
     }
 
     // The exchange with the event at a position, where there is one.
-    fn with_event_at(self, events: &[Event], place: usize) -> Exchange
-        ensures { result ≡ Exchanges.with_event_at (map parts_of events.now) self place }
+    fn with_event_at(self, events: &[Event], index: usize) -> Exchange
+        ensures { result ≡ Exchanges.with_event_at (map parts_of events.now) self index }
     {
-        match events.get(place) {
+        match events.get(index) {
             Some(event) => self.with(event),
             None => self,
         }
@@ -157,12 +157,12 @@ pub fn exchanges_of(
     ensures { IfOk result (λ v. v.items ≡ Exchanges.exchanges (map parts_of events.now) partners.now) }
 {
     let mut exchanges = Vec::new(alloc);
-    'partners: for (place, partner) in partners.iter().enumerate() {
-        let alone = Exchange::new().with_event_at(events, place);
+    'partners: for (index, partner) in partners.iter().enumerate() {
+        let alone = Exchange::new().with_event_at(events, index);
         match *partner {
             None => exchanges.push(alone)?,
             Some(other) => {
-                if place < other {
+                if index < other {
                     exchanges.push(alone.with_event_at(events, other))?;
                 }
             }

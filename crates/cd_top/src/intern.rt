@@ -1,10 +1,10 @@
 //! The tables of a block as they grow, exchange by exchange (RFC 8618 7.3.2.3).
 
 ghost use Rattle.std.specs.Prelude.{◌≡◌, ◌<◌, OnOk, OnErr, IfOk, IfSome, position};
-ghost use Rattle.cd_top.specs.Interning.{put, no_tables, placed_sig, put_sig, put_item};
+ghost use Rattle.cd_top.specs.Interning.{put, no_tables, sig_at, put_sig, put_item};
 ghost use Rattle.std.specs.Option.{option_map};
 ghost use Rattle.cd_top.specs.Kept.{query_flags, response_flags, dns_flags_of, rcode_of, record_count, size_of, hop_limit_of, delay_between, delay_of, kept_sig, kept_item};
-ghost use Rattle.cd_top.specs.Tables.{place_in, same_address, same_sig};
+ghost use Rattle.cd_top.specs.Tables.{index_in, same_address, same_sig};
 
 use crate::block::{BlockItem, BlockSig, Delay};
 use crate::exchange::{Exchange, Half};
@@ -165,9 +165,9 @@ impl Sig {
         }
     }
 
-    // The signature as it stands in a block, where its address has this place.
-    fn placed(&self, server_address: u64) -> BlockSig
-        ensures { result ≡ placed_sig server_address self.now }
+    // The signature as it stands in a block, where its address has this index.
+    fn at(&self, server_address: u64) -> BlockSig
+        ensures { result ≡ sig_at server_address self.now }
     {
         BlockSig {
             server_address,
@@ -203,18 +203,18 @@ impl Sig {
     }
 }
 
-/// The tables of a block as it grows, and the items whose values have their places in them.
+/// The tables of a block as it grows, and the items whose values have their indexes in them.
 #[derive(Drop)]
 pub struct Tables {
     pub addresses: List<[u8; 4]>,
     pub signatures: List<Sig>,
-    /// The signatures as they stand in the block, with the places of their addresses.
+    /// The signatures as they stand in the block, with the indexes of their addresses.
     pub block_signatures: List<BlockSig>,
     pub items: List<BlockItem>,
 }
 
-// The place of an address in a table.
-fn address_place(table: &[[u8; 4]], address: [u8; 4]) -> Option<usize>
+// The index of an address in a table.
+fn address_index(table: &[[u8; 4]], address: [u8; 4]) -> Option<usize>
     ensures { result ≡ position (same_address address) table.now }
 {
     table
@@ -222,25 +222,25 @@ fn address_place(table: &[[u8; 4]], address: [u8; 4]) -> Option<usize>
         .position(|other| is_same_address(address, *other))
 }
 
-// The place of a signature in a table.
-fn signature_place(table: &[Sig], signature: Sig) -> Option<usize>
+// The index of a signature in a table.
+fn signature_index(table: &[Sig], signature: Sig) -> Option<usize>
     ensures { result ≡ position (same_sig signature) table.now }
 {
     table.iter().position(|other| signature.is_same(other))
 }
 
-/// The place, from 0, of an address in a table, where it is put last if it is not there. An `Err` says that no memory was
+/// The index, from 0, of an address in a table, where it is put last if it is not there. An `Err` says that no memory was
 /// found.
 pub fn put_address(table: &mut List<[u8; 4]>, address: [u8; 4]) -> Result<u64, AllocError>
     ensures table { OnOk result (table.new ≡ put same_address table.old address) }
-    ensures place { IfOk result (λ place. place ≡ place_in same_address table.old address) }
+    ensures index { IfOk result (λ index. index ≡ index_in same_address table.old address) }
 {
-    match address_place(table.as_slice(), address) {
-        Some(place) => Ok(place as u64),
+    match address_index(table.as_slice(), address) {
+        Some(index) => Ok(index as u64),
         None => {
-            let place = table.as_slice().len();
+            let index = table.as_slice().len();
             match table.push(address) {
-                Ok(()) => Ok(place as u64),
+                Ok(()) => Ok(index as u64),
                 Err(_) => Err(AllocError),
             }
         }
@@ -260,20 +260,20 @@ impl Tables {
         }
     }
 
-    // The place of a signature, which is put last if it is not there. Its address stands at the place that is given.
+    // The index of a signature, which is put last if it is not there. Its address stands at the index that is given.
     fn put_signature(&mut self, signature: Sig, server_address: u64) -> Result<u64, AllocError>
         ensures tables { OnOk result (self.new ≡ put_sig self.old server_address signature) }
-        ensures place { IfOk result (λ place. place ≡ place_in same_sig self.old.signatures signature) }
+        ensures index { IfOk result (λ index. index ≡ index_in same_sig self.old.signatures signature) }
     {
-        match signature_place(self.signatures.as_slice(), signature) {
-            Some(place) => Ok(place as u64),
+        match signature_index(self.signatures.as_slice(), signature) {
+            Some(index) => Ok(index as u64),
             None => {
-                let place = self.signatures.as_slice().len();
+                let index = self.signatures.as_slice().len();
                 if self.signatures.push(signature).is_err() {
                     return Err(AllocError);
                 }
-                match self.block_signatures.push(signature.placed(server_address)) {
-                    Ok(()) => Ok(place as u64),
+                match self.block_signatures.push(signature.at(server_address)) {
+                    Ok(()) => Ok(index as u64),
                     Err(_) => Err(AllocError),
                 }
             }

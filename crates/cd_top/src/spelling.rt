@@ -77,7 +77,7 @@ pub fn push_map(out: &mut Vec<u8>, count: u64) -> Result<(), AllocError>
     push_head(out, MAP, count)
 }
 
-/// Appends a key and its number.
+// Appends a key and its number.
 #[tactic(auto, using(std::proofs::lemmas::List::append_assoc))]
 fn push_field(out: &mut Vec<u8>, key: u64, n: u64) -> Result<(), AllocError>
     ensures { OnOk result (out.new.items ≡ out.old.items ++ (head_of 0 key ++ head_of 0 n)) }

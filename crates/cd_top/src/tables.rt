@@ -1,10 +1,9 @@
 //! The block of some exchanges.
 
-ghost use Rattle.std.specs.Prelude.{◌≡◌, ◌≢◌, ◌↔◌, ◌≤◌, ℕ, List, length, AllPairs, Contains, IfOk};
+ghost use Rattle.std.specs.Prelude.{◌≡◌, ◌≤◌, length, IfOk};
 ghost use Rattle.std.specs.List.{count_by};
-ghost use Rattle.cd_top.specs.Kept.{earliest_tick as least_tick, stamp_of, is_unanswered, is_unasked, statistics as statistics_of, kept_block};
-ghost use Rattle.cd_top.specs.Tables.{indexed_block, table_of, same_address, same_sig};
-ghost use Rattle.cd_top.specs.declared.intern.Sig.{Sig};
+ghost use Rattle.cd_top.specs.Kept.{earliest_tick as least_tick, stamp_of, is_unmatched_query, is_unmatched_response, statistics as statistics_of, kept_block};
+ghost use Rattle.cd_top.specs.Tables.{indexed_block};
 
 use crate::block::{Block, Stamp, Stats};
 use crate::exchange::Exchange;
@@ -39,9 +38,9 @@ fn stamp(tick: u64) -> Stamp
     }
 }
 
-// How many exchanges are a query with no response.
-fn unanswered_count(exchanges: &[Exchange]) -> u64
-    ensures { result ≡ count_by is_unanswered exchanges.now }
+// How many exchanges are an unmatched query.
+fn unmatched_query_count(exchanges: &[Exchange]) -> u64
+    ensures { result ≡ count_by is_unmatched_query exchanges.now }
 {
     let mut count: usize = 0;
     'exchanges: for exchange in exchanges {
@@ -52,9 +51,9 @@ fn unanswered_count(exchanges: &[Exchange]) -> u64
     count as u64
 }
 
-// How many exchanges are a response with no query.
-fn unasked_count(exchanges: &[Exchange]) -> u64
-    ensures { result ≡ count_by is_unasked exchanges.now }
+// How many exchanges are an unmatched response.
+fn unmatched_response_count(exchanges: &[Exchange]) -> u64
+    ensures { result ≡ count_by is_unmatched_response exchanges.now }
 {
     let mut count: usize = 0;
     'exchanges: for exchange in exchanges {
@@ -71,8 +70,8 @@ fn statistics(processed: u64, exchanges: &[Exchange]) -> Stats
     Stats {
         processed,
         items: exchanges.len() as u64,
-        unmatched_queries: unanswered_count(exchanges),
-        unmatched_responses: unasked_count(exchanges),
+        unmatched_queries: unmatched_query_count(exchanges),
+        unmatched_responses: unmatched_response_count(exchanges),
         discarded: 0,
         malformed: 0,
     }
@@ -106,11 +105,3 @@ pub fn indexed_block(
         qr_sig: block_signatures,
     })
 }
-
-/// A law: the tables of a block hold each value once, and no other values than those that were put. It does nothing.
-pub fn tables_hold_each_value_once()
-    ensures once { (values : List (List ℕ)) → AllPairs (λ a b. a ≢ b) (table_of same_address values) }
-    ensures all { (values : List (List ℕ)) (x : List ℕ) → Contains values x ↔ Contains (table_of same_address values) x }
-    ensures signatures_once { (values : List Sig) → AllPairs (λ a b. a ≢ b) (table_of same_sig values) }
-    ensures all_signatures { (values : List Sig) (x : Sig) → Contains values x ↔ Contains (table_of same_sig values) x }
-{}

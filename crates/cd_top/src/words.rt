@@ -1,10 +1,11 @@
 //! The words of the command line.
 
 ghost use Rattle.std.specs.Prelude.{◌≡◌, ◌↔◌, ℕ, IsTrue, Some, slice_get, MatchOption};
-ghost use Rattle.cd_top.specs.Words.{language, BreaksAt, LeavesOnce};
+ghost use Rattle.cd_top.specs.Words.{language, BreaksAt};
 
 use cd_name::Blob;
 
+// Whether the word at a place is this one.
 fn is_word(words: &[Blob], place: usize, word: &[u8]) -> bool
     ensures { IsTrue result ↔ (slice_get words.now place ≡ Some word.now) }
 {
@@ -39,8 +40,3 @@ pub fn place_of_fault(words: &[Blob]) -> Option<u64>
     }
     None
 }
-
-/// A law: each list of words is the language, or leaves it at exactly one place. It does nothing.
-pub fn words_leave_the_language_once()
-    ensures { LeavesOnce }
-{}

@@ -1,5 +1,5 @@
 -- Command lines that grow by an option and its value, in any language.
-use Rattle.std.proofs.Common.{◌≡◌, ℕ, ◌+◌, ◌*◌, ◌<◌, ◌≤◌, List, [], ◌∷◌, ◌++◌, length, take, drop, get_or-take, Option, Some, None, IsSomeAnd, refl, sym, ap, ◌∙◌, subst, arith, suc, zero, ltb, Bool, true, false, append_assoc}
+use Rattle.std.proofs.Common.{◌≡◌, ℕ, ◌+◌, ◌*◌, ◌<◌, ◌≤◌, List, [], ◌∷◌, ◌++◌, length, take, drop, get_or-take, Some, refl, sym, ap, ◌∙◌, subst, arith, suc, zero, ltb, Bool, true, false, append_assoc}
 use Rattle.std.proofs.lemmas.Bool.{ltb-true, ltb-false}
 use Rattle.std.proofs.lemmas.List.{length-take-le, take_more}
 use Rattle.std.specs.Option.{option_map_or}

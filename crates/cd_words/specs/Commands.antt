@@ -1,7 +1,5 @@
 -- The commands of the program, and the words that say them.
-use Rattle.std.specs.Prelude.{◌≡◌, ℕ, List, codes}
-use Rattle.cd_hints.specs.declared.settings.Settings.{Settings}
-use Rattle.cd_hints.specs.Settings.{default_settings}
+use Rattle.std.specs.Prelude.{◌≡◌, ℕ, List}
 use Rattle.cd_hints.specs.Validity.{IsValid}
 use Rattle.cd_words.specs.declared.command.Command.{Command}
 use Rattle.cd_words.specs.declared.command.Command.TheVariants.{Compact}

@@ -1,4 +1,4 @@
-//! A capture that comes in pieces.
+//! A capture that comes in chunks.
 
 use super::sample::{capture, compacted, file_of, sound_sink};
 use crate::Status;

@@ -4,7 +4,7 @@ use Rattle.cd_ident.specs.Keys.{parts_of}
 use Rattle.cd_ident.specs.Events.{EventParts}
 use Rattle.cd_top.proofs.Partners.{exchanges-single, exchanges-pair, exchanges-second, pushed}
 use Rattle.cd_top.proofs.exchange.exchanges_of.Goals as goal
-use Rattle.cd_top.proofs.exchange.exchanges_of.Goals.{in-None+in_ok-push-in-None, in-Some+then-place-other+in_ok-push-in-Some, in-Some+else-place-other}
+use Rattle.cd_top.proofs.exchange.exchanges_of.Goals.{in-None+in_ok-push-in-None, in-Some+then-index-other+in_ok-push-in-Some, in-Some+else-index-other}
 
 pub partners-preserved : goal.partners-preserved
 partners-preserved c =
@@ -14,12 +14,12 @@ partners-preserved c =
       | in-None+in_ok-push-in-None w ↦
           ap (λ v. v.items) w.exchanges-is
           ∙ pushed _ _ _ _ _ _ w.in_ok-push-in-None.ensures.items c.partners.invariant alone
-          (exchanges-single events c.args.partners.now c.partners.place c.partners-test.true w.in-None.is)
-      | in-Some+then-place-other+in_ok-push-in-Some w ↦
+          (exchanges-single events c.args.partners.now c.partners.index c.partners-test.true w.in-None.is)
+      | in-Some+then-index-other+in_ok-push-in-Some w ↦
           ap (λ v. v.items) w.exchanges-is
           ∙ pushed _ _ _ _ _ _ w.in_ok-push-in-Some.ensures.items c.partners.invariant (rw alone at w.with_event_at.ensures)
-          (exchanges-pair events c.args.partners.now c.partners.place w.in-Some.other c.partners-test.true w.in-Some.is w.if-place-other.true)
-      | in-Some+else-place-other w ↦
+          (exchanges-pair events c.args.partners.now c.partners.index w.in-Some.other c.partners-test.true w.in-Some.is w.if-index-other.true)
+      | in-Some+else-index-other w ↦
           ap (λ v. v.items) w.exchanges-is ∙ c.partners.invariant
-          ∙ sym (exchanges-second events c.args.partners.now c.partners.place w.in-Some.other c.partners-test.true w.in-Some.is w.if-place-other.false)
+          ∙ sym (exchanges-second events c.args.partners.now c.partners.index w.in-Some.other c.partners-test.true w.in-Some.is w.if-index-other.false)
     ]

@@ -5,7 +5,7 @@ use Rattle.std.proofs.lemmas.Bool.{le-ltb, lt-ltb, ltb-true, eqb-true, cases_Boo
 use Rattle.cd_bytes.specs.Numbers.{le32}
 use Rattle.cd_packet.specs.Magic.{has_magic}
 use Rattle.cd_packet.specs.Capture.{Capture, IsWholeOrCut}
-use Rattle.cd_packet.specs.Pcap.{is_little_micro, pcap}
+use Rattle.cd_pcap.specs.Pcap.{is_little_micro, pcap}
 use Rattle.cd_packet.proofs.Growing.{has_magic-append, has_magic-many, has_magic-few}
 use Rattle.cd_packet.specs.declared.capture.EndState.{EndState}
 use Rattle.cd_packet.specs.declared.capture.EndState.TheVariants.{Whole, Cut, Bad}
@@ -42,7 +42,7 @@ served-front before (p ∷ ps) qs none =
     let k = none_chosen (is_served before p) (first_unserved (before + 1) (ps ++ qs)) p.at none in
     rw k.0 (served-front (before + 1) ps qs k.1)
 
--- behind packets that can be compacted, the others decide
+-- after packets that can be compacted, the others decide
 pub served-append : (before : ℕ) (ps qs : List Packet) → first_unserved before ps ≡ None →
     first_unserved before (ps ++ qs) ≡ first_unserved (before + length ps) qs
 served-append before [] qs none = let e : before ≡ before + 0 = omega arith in ap (λ n. first_unserved n qs) e
@@ -143,13 +143,13 @@ unsaid_packets None (Bad b) is = absurd cc
 pub unsaid-capture : (c : Capture) → status_of_capture c ≡ None → IsUnsaid c
 unsaid-capture c is = let k = unsaid_packets (first_unserved 0 c.packets) c.end is in record { packets = k.0; end = k.1 }
 
-pub unsaid-judged : (c : Capture) → IsUnsaid c → status_of_capture c ≡ None
-unsaid-judged c h = rw h.packets (open_judged c.end h.end)
+pub unsaid-status : (c : Capture) → IsUnsaid c → status_of_capture c ≡ None
+unsaid-status c h = rw h.packets (open_status c.end h.end)
   where
-    open_judged : (e : EndState) → IsWholeOrCut e → status_of_end e ≡ None
-    open_judged Whole k = refl
-    open_judged Cut k = refl
-    open_judged (Bad b) k = absurd k
+    open_status : (e : EndState) → IsWholeOrCut e → status_of_end e ≡ None
+    open_status Whole k = refl
+    open_status Cut k = refl
+    open_status (Bad b) k = absurd k
 
 -- from four bytes on, bytes of a format that is read say what their capture says
 pub status_said-read : (t : Bool) (bytes : List ℕ) → 4 ≤ length bytes → is_other_format bytes ≡ false → status_said t bytes ≡ status_of_capture (pcap bytes)

@@ -3,7 +3,7 @@ use Rattle.std.proofs.lemmas.Slice.Eq.{bytes_eq-Decides}
 use Rattle.cd_top.specs.Tables.{same_address, same_sig}
 use Rattle.cd_top.proofs.Interning.{same_sig-Decides}
 use Rattle.cd_top.proofs.Once.{once, all}
-use Rattle.cd_top.proofs.tables.tables_hold_each_value_once.Goals as goal
+use Rattle.cd_top.proofs.laws.tables_hold_each_value_once.Goals as goal
 
 pub returns : goal.returns
 returns c = record {

@@ -1,6 +1,6 @@
 use Rattle.std.proofs.Common.{◌≡◌, ℕ, List, length}
 use Rattle.cd_top.specs.Gathered.{Follows}
-use Rattle.cd_top.proofs.intake.Intake.drain.Given as goal
+use Rattle.cd_top.proofs.capture_events.CaptureEvents.take_packets.Given as goal
 
 abbrev pub invariant-packets : goal.invariant-packets
 invariant-packets l = record {

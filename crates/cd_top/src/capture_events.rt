@@ -3,7 +3,7 @@
 ghost use Rattle.std.specs.Prelude.{◌≡◌, ℕ, ◌+◌, ◌≤◌, ◌^◌, ◌++◌, [], List, length, map, take, IfOk, OnOk, OnErr, IsTrue, ◌↔◌};
 ghost use Rattle.std.specs.Option.{option_map};
 ghost use Rattle.cd_ident.specs.Keys.{parts_of};
-ghost use Rattle.cd_top.specs.Gathered.{Follows, Drains, Judges, served_event};
+ghost use Rattle.cd_top.specs.Gathered.{Follows, TakesPackets, SaysStatus, served_event};
 ghost use Rattle.cd_top.specs.Endings.{is_other_format, status_of_end};
 
 use crate::Status;
@@ -14,7 +14,7 @@ use cd_packet::{EndState, FeedFault, Packet, has_magic};
 use cd_pcap::PcapReader;
 use std::alloc::{AllocError, Global};
 
-/// So many packets can be compacted so far.
+// So many packets can be compacted so far.
 const MOST_PACKETS: usize = 10_000;
 
 // The first four bytes of the formats that are not read yet, as little-endian numbers: pcap of microseconds and of
@@ -27,12 +27,12 @@ const LITTLE_NANO: u32 = 0xa1b23c4d;
 
 const PCAPNG: u32 = 0x0a0d0d0a;
 
-/// How many bytes choose the format of a capture.
+// How many bytes choose the format of a capture.
 const MAGIC_SIZE: usize = 4;
 
-/// What is gathered of a capture that comes in pieces.
+/// The events of a capture that comes in chunks.
 #[derive(Drop)]
-pub struct Intake {
+pub struct CaptureEvents {
     reader: PcapReader,
     /// The first four bytes, or as many as there are.
     first: Vec<u8>,
@@ -63,12 +63,12 @@ fn status_of(end: EndState) -> Option<Status>
     }
 }
 
-impl Intake {
-    /// An intake that has taken nothing.
-    pub fn new(alloc: Global) -> Intake
+impl CaptureEvents {
+    /// The events of no bytes.
+    pub fn new(alloc: Global) -> CaptureEvents
         ensures { Follows result [] }
     {
-        Intake {
+        CaptureEvents {
             reader: PcapReader::new(alloc),
             first: Vec::new(alloc),
             events: List::from_vec(Vec::new(alloc)),
@@ -84,24 +84,25 @@ impl Intake {
     }
 
     // Keeps the first bytes of the capture.
-    fn keep_first(&mut self, piece: &[u8]) -> Result<(), AllocError>
-        ensures first { (fed : List ℕ) → self.old.first.items ≡ take 4 fed → OnOk result (self.new.first.items ≡ take 4 (fed ++ piece.now)) }
+    fn keep_first(&mut self, chunk: &[u8]) -> Result<(), AllocError>
+        ensures first { (fed : List ℕ) → self.old.first.items ≡ take 4 fed →
+            OnOk result (self.new.first.items ≡ take 4 (fed ++ chunk.now)) }
         ensures same { OnOk result ((self.new.reader ≡ self.old.reader) × (self.new.events ≡ self.old.events)) }
     {
         let missing = MAGIC_SIZE.saturating_sub(self.first.len());
-        let count = missing.min(piece.len());
-        self.first.extend_from_slice(&piece[..count])
+        let count = missing.min(chunk.len());
+        self.first.extend_from_slice(&chunk[..count])
     }
 
-    /// Takes the next piece of the capture, of which all pieces have at most 2^48 bytes. An `Err` of any call says that no
-    /// memory was found, and then the intake is of no more use.
-    pub fn feed(&mut self, piece: &[u8]) -> Result<(), AllocError>
-        requires { self.old.reader.fed_count + length piece.now ≤ 2 ^ 48 }
-        ensures history { OnOk result ((fed : List ℕ) → Follows self.old fed → Follows self.new (fed ++ piece.now)) }
-        ensures count { OnOk result (self.new.reader.fed_count ≡ self.old.reader.fed_count + length piece.now) }
+    /// Takes the next chunk of the capture, of which all chunks have at most 2^48 bytes. An `Err` of any call says that no
+    /// memory was found, and then the value is of no more use.
+    pub fn feed(&mut self, chunk: &[u8]) -> Result<(), AllocError>
+        requires { self.old.reader.fed_count + length chunk.now ≤ 2 ^ 48 }
+        ensures history { OnOk result ((fed : List ℕ) → Follows self.old fed → Follows self.new (fed ++ chunk.now)) }
+        ensures count { OnOk result (self.new.reader.fed_count ≡ self.old.reader.fed_count + length chunk.now) }
     {
-        self.keep_first(piece)?;
-        match self.reader.feed(piece) {
+        self.keep_first(chunk)?;
+        match self.reader.feed(chunk) {
             Ok(()) => Ok(()),
             // Its end tells the refused place, once the packets before it are taken.
             Err(FeedFault::Bad(_)) => Ok(()),
@@ -121,8 +122,9 @@ impl Intake {
     }
 
     // Takes the packets that are there whole, up to one that can't be compacted.
-    fn drain(&mut self) -> Result<Option<Status>, AllocError>
-        ensures history { IfOk result (λ said. (fed : List ℕ) → Follows self.old fed → Drains self.new fed said) }
+    fn take_packets(&mut self) -> Result<Option<Status>, AllocError>
+        ensures history { IfOk result (λ said. (fed : List ℕ) →
+            Follows self.old fed → TakesPackets self.new fed said) }
         ensures count { OnOk result (self.new.reader.fed_count ≡ self.old.reader.fed_count) }
     {
         'packets: loop {
@@ -144,19 +146,20 @@ impl Intake {
     }
 
     /// What the bytes taken say of how the run ends, where they say it. Fewer than four say nothing before the end was told.
-    pub fn judge(&mut self, told_end: bool) -> Result<Option<Status>, AllocError>
-        ensures history { IfOk result (λ said. (fed : List ℕ) → Follows self.old fed → Judges told_end self.new fed said) }
+    pub fn status_said(&mut self, told_end: bool) -> Result<Option<Status>, AllocError>
+        ensures history { IfOk result (λ said. (fed : List ℕ) →
+            Follows self.old fed → SaysStatus told_end self.new fed said) }
         ensures count { OnOk result (self.new.reader.fed_count ≡ self.old.reader.fed_count) }
     {
         if self.first.len() < MAGIC_SIZE {
             if told_end {
-                return self.drain();
+                return self.take_packets();
             }
             return Ok(None);
         }
         if is_other_format(&self.first) {
             return Ok(Some(Status::NotYet { at: 0 }));
         }
-        self.drain()
+        self.take_packets()
     }
 }
