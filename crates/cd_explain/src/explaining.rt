@@ -1,0 +1,182 @@
+//! Explains each input by the layer that is asked for.
+
+ghost use Rattle.std.specs.Prelude.{IfOk};
+ghost use Rattle.cd_hints.specs.Validity.{IsValid};
+
+use crate::Ended;
+use crate::asked::{Asked, Request, number_of};
+use crate::captures::walk;
+use crate::events::{Events, put_events, put_pairs};
+use crate::inputs::{bytes_of_hex, words_of_line};
+use crate::messages::explain_message;
+use crate::names::{explain_checksum, explain_name, explain_numbers, explain_prefix};
+use crate::packets::{Layers, Packets, put_walked};
+use crate::runs::put_runs;
+use crate::settings::explain_words;
+use cd_hints::Settings;
+use cd_name::Blob;
+use cd_words::{Command, WordsFault, read_words};
+use std::alloc::{AllocError, Global};
+use std::fmt::Write;
+
+// The command line with some options.
+fn command_line(alloc: Global, options: &[Blob]) -> Result<Vec<Blob>, AllocError> {
+    let mut words = words_of_line(alloc, b"compact")?;
+    for option in options {
+        words.push(Blob::from_vec(Vec::from_slice(alloc, option.as_slice())?))?;
+    }
+    Ok(words)
+}
+
+// The settings that options of `compact` say.
+fn settings_of(alloc: Global, options: &[Blob]) -> Result<Settings, Ended>
+    ensures { IfOk result IsValid }
+{
+    let words = command_line(alloc, options)?;
+    match read_words(alloc, &words) {
+        Ok(Command::Compact(settings)) => Ok(settings),
+        Err(WordsFault::Usage { .. }) => Err(Ended::Usage),
+        Err(WordsFault::NoMemory) => Err(Ended::NoMemory),
+    }
+}
+
+// A capture, by valid settings.
+fn put_capture(
+    alloc: Global,
+    text: &mut String,
+    request: &Request,
+    settings: &Settings,
+    bytes: &[u8],
+) -> Result<(), AllocError>
+    requires { IsValid settings.now }
+{
+    let chunk = request.chunk;
+    let walked = match request.asked {
+        Asked::Packets => walk(alloc, bytes, chunk, &mut Packets { text })?,
+        Asked::Layers => {
+            let port = settings.port;
+            walk(alloc, bytes, chunk, &mut Layers { text, port })?
+        }
+        asked => {
+            let mut events = Events::new(alloc, settings, request.ipv6);
+            let walked = walk(alloc, bytes, chunk, &mut events)?;
+            let partners = events.partners(settings)?;
+            match asked {
+                Asked::Pairs => put_pairs(text, events.as_slice(), partners.as_slice())?,
+                Asked::Records => put_runs(alloc, text, settings, events, partners.as_slice())?,
+                _ => put_events(text, events.as_slice())?,
+            }
+            walked
+        }
+    };
+    put_walked(text, walked)
+}
+
+// What a layer that takes a number makes of bytes. False where it does not take the number with them.
+fn put_numbered(
+    alloc: Global,
+    text: &mut String,
+    asked: Asked,
+    number: usize,
+    bytes: &[u8],
+) -> Result<bool, AllocError> {
+    match asked {
+        Asked::Prefix => explain_prefix(text, bytes, number),
+        Asked::Checksum => explain_checksum(text, bytes, number),
+        Asked::Numbers => {
+            explain_numbers(text, bytes, number)?;
+            Ok(true)
+        }
+        _ => {
+            explain_name(alloc, text, bytes, number)?;
+            Ok(true)
+        }
+    }
+}
+
+// The type for the answers of a message that is written, where a word says one.
+fn answer_type_of(words: &[Blob]) -> Result<Option<u16>, Ended> {
+    let [word] = words else {
+        return if words.is_empty() {
+            Ok(None)
+        } else {
+            Err(Ended::Usage)
+        };
+    };
+    let Some(number) = number_of(word.as_slice()) else {
+        return Err(Ended::Usage);
+    };
+    match u16::try_from(number) {
+        Ok(rtype) => Ok(Some(rtype)),
+        Err(_) => Err(Ended::Usage),
+    }
+}
+
+// One input.
+fn explain_input(
+    alloc: Global,
+    text: &mut String,
+    request: &Request,
+    bytes: &[u8],
+) -> Result<(), Ended> {
+    match request.asked {
+        Asked::Message => {
+            let answer_type = answer_type_of(request.words)?;
+            explain_message(alloc, text, bytes, answer_type)?;
+        }
+        Asked::Name | Asked::Prefix | Asked::Checksum | Asked::Numbers => {
+            for word in request.words {
+                let Some(number) = number_of(word.as_slice()) else {
+                    return Err(Ended::Usage);
+                };
+                if !put_numbered(alloc, text, request.asked, number, bytes)? {
+                    return Err(Ended::Usage);
+                }
+            }
+        }
+        _ => {
+            let settings = settings_of(alloc, request.words)?;
+            put_capture(alloc, text, request, &settings, bytes)?;
+        }
+    }
+    Ok(())
+}
+
+// A line of the input: a command line, or an input in hexadecimal.
+fn explain_line(
+    alloc: Global,
+    text: &mut String,
+    request: &Request,
+    line: &[u8],
+) -> Result<(), Ended> {
+    if request.asked == Asked::Words {
+        let words = words_of_line(alloc, line)?;
+        return Ok(explain_words(alloc, text, &words)?);
+    }
+    match bytes_of_hex(alloc, line)? {
+        Some(bytes) => explain_input(alloc, text, request, &bytes),
+        None => Err(Ended::NoHex),
+    }
+}
+
+/// Explains the input.
+pub fn explain(
+    alloc: Global,
+    text: &mut String,
+    request: &Request,
+    input: &[u8],
+) -> Result<(), Ended> {
+    let words = request.asked == Asked::Words;
+    if words && !request.words.is_empty() {
+        return Ok(explain_words(alloc, text, request.words)?);
+    }
+    if !words && !request.hex {
+        return explain_input(alloc, text, request, input);
+    }
+    let lines = input.strip_suffix(b"\n").unwrap_or(input);
+    for (index, line) in lines.split(|byte| *byte == b'\n').enumerate() {
+        writeln!(text, "input {index}")?;
+        explain_line(alloc, text, request, line)?;
+    }
+    Ok(())
+}
