@@ -11,16 +11,17 @@ use std::env;
 use std::io::ErrorKind;
 use std::process::ExitCode;
 
+// The exit status where a word is not UTF-8 text.
 const NO_TEXT: u8 = 10;
 
-/// Why there are no words.
+// Why there are no words.
 enum NoWords {
     NoMemory,
-    /// A word is not UTF-8 text.
+    // A word is not UTF-8 text.
     NoText,
 }
 
-/// The words of the command line without the program's name.
+// The words of the command line without the program's name.
 fn words_of(rt: &HostRuntime) -> Result<Vec<Blob>, NoWords> {
     let args = match env::args(rt) {
         Ok(args) => args,
@@ -40,7 +41,7 @@ fn words_of(rt: &HostRuntime) -> Result<Vec<Blob>, NoWords> {
     Ok(words)
 }
 
-/// Runs over the standard streams, and gives the exit status.
+// Runs over the standard streams, and gives the exit status.
 fn run_words(rt: &HostRuntime, words: &[Blob]) -> u8 {
     let mut src = StdSource::new(rt.stdin());
     let mut out = StdSink::new(rt.stdout());
