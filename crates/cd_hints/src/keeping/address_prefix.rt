@@ -8,7 +8,7 @@ use cd_packet::Addr;
 
 const BYTE_BITS: usize = 8;
 
-/// The first bits of a byte, and 0 behind them.
+// The first bits of a byte, and 0 after them.
 fn first_bits_of_byte(bits: usize, byte: u8) -> u8
     requires { bits ≤ 8 }
     ensures { result ≡ first_bits_of_byte bits byte }

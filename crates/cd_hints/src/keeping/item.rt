@@ -1,34 +1,55 @@
 //! What is kept of a record.
 
-ghost use Rattle.std.specs.Prelude.{◌≡◌, IfOk};
+ghost use Rattle.std.specs.Prelude.{◌≡◌, IfOk, option_and_then, Some};
 ghost use Rattle.std.specs.Option.{option_copied, option_map, option_map_or};
+ghost use Rattle.cd_ident.specs.Keys.{parts_of};
 ghost use Rattle.cd_hints.specs.Hinted;
-ghost use Rattle.cd_hints.specs.Addresses;
 ghost use Rattle.cd_hints.specs.Items;
 ghost use Rattle.cd_hints.specs.Lists;
-ghost use Rattle.cd_hints.specs.Records.{record_parts, main_event, query_of, response_of, query_message, response_message, HasKinds, IsItem};
+ghost use Rattle.cd_hints.specs.Records.{record_parts, main_event, query_message, response_message, HasKinds, IsItem};
 ghost use Rattle.cd_hints.specs.Ticks.{IsAtOrBefore};
 ghost use Rattle.cd_hints.specs.Validity.{AreValidParams, IsValid};
 
-use crate::copies::copy_name;
-use crate::hint::{is_hinted, kept};
-use crate::lists::{no_lists, query_lists, response_lists};
+use crate::keeping::copies::copy_name;
+use crate::keeping::hint::{is_hinted, kept};
+use crate::keeping::keeper::Keeper;
+use crate::keeping::lists::{no_lists, query_lists, response_lists};
+use crate::keeping::signature::kept_signature;
+use crate::keeping::stored_address::{client_prefix, hinted_address};
+use crate::keeping::ticks::{ticks_between, ticks_since};
 use crate::record::Rec;
 use crate::settings::Settings;
-use crate::signature::{kept_signature, lead_question};
-use crate::stored_address::client_address;
-use crate::ticks::{ticks_between, ticks_since};
 use cd_block::hints::{
     QR_CLIENT_ADDRESS, QR_CLIENT_HOPLIMIT, QR_CLIENT_PORT, QR_QUERY_NAME, QR_QUERY_SIZE,
     QR_RESPONSE_DELAY, QR_RESPONSE_SIZE, QR_SIGNATURE, QR_TIME_OFFSET, QR_TRANSACTION_ID,
 };
 use cd_block::{KeptItem, KeptLists, KeptSig, Params, Stamp};
-use cd_message::Message;
-use cd_name::{Blob, Name};
-use cd_packet::Addr;
+use cd_ident::Event;
+use cd_message::{Message, Question};
+use cd_name::Name;
 use std::alloc::{AllocError, Global};
 
-/// The ID of a message.
+// The first question of a message, where there is a message and it has one.
+fn first_question(message: Option<&Message>) -> Option<&Question>
+    ensures { option_copied result ≡ option_and_then Items.first_question (option_copied message.entry) }
+{
+    match message {
+        Some(message) => message.questions.as_slice().first(),
+        None => None,
+    }
+}
+
+// The lead question of a record: the query's first one, or the response's first one where there is no query or it has none.
+fn lead_question(rec: &Rec) -> Option<&Question>
+    ensures { option_copied result ≡ Items.lead_question (record_parts rec.now) }
+{
+    match first_question(rec.query_message()) {
+        Some(question) => Some(question),
+        None => first_question(rec.response_message()),
+    }
+}
+
+// The ID of a message.
 fn transaction_id(message: Option<&Message>) -> Option<u16>
     ensures { result ≡ option_map (λ m. m.id) (option_copied message.entry) }
 {
@@ -38,37 +59,27 @@ fn transaction_id(message: Option<&Message>) -> Option<u16>
     }
 }
 
-/// The time to live or hop limit of the query.
-fn hop_limit(rec: &Rec) -> Option<u8>
-    ensures { result ≡ option_map (λ e. e.hop) (query_of (record_parts rec.now)) }
+// The time to live or hop limit of an event's packet.
+fn hop_limit(event: Option<&Event>) -> Option<u8>
+    ensures { result ≡ option_map (λ e. e.hop) (option_map (λ e. parts_of e.now) event.entry) }
 {
-    match rec.query() {
-        Some(query) => Some(query.hop),
+    match event {
+        Some(event) => Some(event.hop),
         None => None,
     }
 }
 
-/// The bytes of the query's payload.
-fn query_size(rec: &Rec) -> Option<u64>
-    ensures { result ≡ option_map (λ e. e.size) (query_of (record_parts rec.now)) }
+// The bytes of an event's payload.
+fn payload_size(event: Option<&Event>) -> Option<u64>
+    ensures { result ≡ option_map (λ e. e.size) (option_map (λ e. parts_of e.now) event.entry) }
 {
-    match rec.query() {
-        Some(query) => Some(u64::from(query.size)),
+    match event {
+        Some(event) => Some(u64::from(event.size)),
         None => None,
     }
 }
 
-/// The bytes of the response's payload.
-fn response_size(rec: &Rec) -> Option<u64>
-    ensures { result ≡ option_map (λ e. e.size) (response_of (record_parts rec.now)) }
-{
-    match rec.response() {
-        Some(response) => Some(u64::from(response.size)),
-        None => None,
-    }
-}
-
-/// Ticks from the query to the response of a pair.
+// Ticks from the query to the response of a pair.
 fn response_delay(params: &Params, rec: &Rec) -> Option<i64>
     requires { AreValidParams params.now }
     ensures { result ≡ Items.response_delay params.now (record_parts rec.now) }
@@ -84,32 +95,19 @@ fn response_delay(params: &Params, rec: &Rec) -> Option<i64>
     }
 }
 
-/// What is kept of the client's address.
-fn kept_client_address(
+// What is kept of the name of the lead question.
+fn kept_query_name(
     alloc: Global,
-    params: &Params,
-    client: &Addr,
-) -> Result<Option<Blob>, AllocError>
-    requires { AreValidParams params.now }
-    ensures { IfOk result (λ address. address ≡
-        Hinted.kept params.now.hints.qr QR_CLIENT_ADDRESS (Some (Addresses.client_address params.now.prefixes client.now))) }
-{
-    if !is_hinted(params.hints.qr, QR_CLIENT_ADDRESS) {
-        return Ok(None);
-    }
-    let address = client_address(alloc, &params.prefixes, client)?;
-    Ok(Some(address))
-}
-
-/// What is kept of the name of the lead question.
-fn kept_query_name(alloc: Global, params: &Params, rec: &Rec) -> Result<Option<Name>, AllocError>
+    hints: u32,
+    lead: Option<&Question>,
+) -> Result<Option<Name>, AllocError>
     ensures { IfOk result (λ name. name ≡
-        Hinted.kept params.now.hints.qr QR_QUERY_NAME (option_map (λ q. q.name) (Items.lead_question (record_parts rec.now)))) }
+        Hinted.kept hints QR_QUERY_NAME (option_map (λ q. q.name) (option_copied lead.entry))) }
 {
-    if !is_hinted(params.hints.qr, QR_QUERY_NAME) {
+    if !is_hinted(hints, QR_QUERY_NAME) {
         return Ok(None);
     }
-    match lead_question(rec) {
+    match lead {
         Some(question) => {
             let name = copy_name(alloc, &question.name)?;
             Ok(Some(name))
@@ -118,41 +116,43 @@ fn kept_query_name(alloc: Global, params: &Params, rec: &Rec) -> Result<Option<N
     }
 }
 
-/// The signature, where its hint is set.
+// The signature of a record with this lead question, where its hint is set.
 fn hinted_signature(
     alloc: Global,
     params: &Params,
     rec: &Rec,
+    lead: Option<&Question>,
 ) -> Result<Option<KeptSig>, AllocError>
-    requires { AreValidParams params.now }
+    requires valid { AreValidParams params.now }
+    requires lead { option_copied lead ≡ Items.lead_question (record_parts rec.now) }
     ensures { IfOk result (λ signature. signature ≡
         Hinted.kept params.now.hints.qr QR_SIGNATURE (Some (Items.kept_signature params.now (record_parts rec.now)))) }
 {
     if !is_hinted(params.hints.qr, QR_SIGNATURE) {
         return Ok(None);
     }
-    let signature = kept_signature(alloc, params, rec)?;
+    let signature = kept_signature(alloc, params, rec, lead)?;
     Ok(Some(signature))
 }
 
-/// The lists of the query, where there is one.
-fn query_extended(alloc: Global, params: &Params, rec: &Rec) -> Result<KeptLists, AllocError>
+// The lists of the query, where there is one.
+fn query_extended(alloc: Global, keeper: &Keeper, rec: &Rec) -> Result<KeptLists, AllocError>
     ensures { IfOk result (λ lists. lists ≡
-        option_map_or (Lists.query_lists params.now) (query_message (record_parts rec.now)) Lists.no_lists) }
+        option_map_or (Lists.query_lists keeper.now) (query_message (record_parts rec.now)) Lists.no_lists) }
 {
     match rec.query_message() {
-        Some(query) => query_lists(alloc, params, query),
+        Some(query) => query_lists(alloc, keeper, query),
         None => Ok(no_lists(alloc)),
     }
 }
 
-/// The lists of the response, where there is one.
-fn response_extended(alloc: Global, params: &Params, rec: &Rec) -> Result<KeptLists, AllocError>
+// The lists of the response, where there is one.
+fn response_extended(alloc: Global, keeper: &Keeper, rec: &Rec) -> Result<KeptLists, AllocError>
     ensures { IfOk result (λ lists. lists ≡
-        option_map_or (Lists.response_lists params.now) (response_message (record_parts rec.now)) Lists.no_lists) }
+        option_map_or (Lists.response_lists keeper.now) (response_message (record_parts rec.now)) Lists.no_lists) }
 {
     match rec.response_message() {
-        Some(response) => response_lists(alloc, params, response),
+        Some(response) => response_lists(alloc, keeper, response),
         None => Ok(no_lists(alloc)),
     }
 }
@@ -173,21 +173,24 @@ pub fn kept_item(
     ensures { IfOk result (λ item. item ≡ Items.kept_item settings.now.params earliest (record_parts rec.now)) }
 {
     let params = &settings.params;
+    let keeper = Keeper::of_ascending(params);
     let hints = params.hints.qr;
     let event = rec.main_event();
     let offset = ticks_since(params.ticks, earliest, event.time);
+    let lead = lead_question(rec);
+    let bits = client_prefix(&params.prefixes, event.client.v6);
     Ok(KeptItem {
         time_offset: kept(hints, QR_TIME_OFFSET, Some(offset)),
-        client_address: kept_client_address(alloc, params, &event.client)?,
+        client_address: hinted_address(alloc, hints, QR_CLIENT_ADDRESS, bits, &event.client)?,
         client_port: kept(hints, QR_CLIENT_PORT, Some(event.client_port)),
         transaction_id: kept(hints, QR_TRANSACTION_ID, transaction_id(rec.main_message())),
-        signature: hinted_signature(alloc, params, rec)?,
-        client_hoplimit: kept(hints, QR_CLIENT_HOPLIMIT, hop_limit(rec)),
+        signature: hinted_signature(alloc, params, rec, lead)?,
+        client_hoplimit: kept(hints, QR_CLIENT_HOPLIMIT, hop_limit(rec.query())),
         response_delay: kept(hints, QR_RESPONSE_DELAY, response_delay(params, rec)),
-        query_name: kept_query_name(alloc, params, rec)?,
-        query_size: kept(hints, QR_QUERY_SIZE, query_size(rec)),
-        response_size: kept(hints, QR_RESPONSE_SIZE, response_size(rec)),
-        query_extended: query_extended(alloc, params, rec)?,
-        response_extended: response_extended(alloc, params, rec)?,
+        query_name: kept_query_name(alloc, hints, lead)?,
+        query_size: kept(hints, QR_QUERY_SIZE, payload_size(rec.query())),
+        response_size: kept(hints, QR_RESPONSE_SIZE, payload_size(rec.response())),
+        query_extended: query_extended(alloc, &keeper, rec)?,
+        response_extended: response_extended(alloc, &keeper, rec)?,
     })
 }

@@ -5,26 +5,26 @@ ghost use Rattle.cd_message.specs.Valid.{is_opt};
 ghost use Rattle.cd_hints.specs.Hinted;
 ghost use Rattle.cd_hints.specs.Lists;
 
-use crate::copies::{copy_blob, copy_name};
-use crate::hint::{is_hinted, kept};
-use crate::listed_types::is_listed_type;
+use crate::keeping::copies::{copy_blob, copy_name};
+use crate::keeping::hint::{is_hinted, kept};
+use crate::keeping::keeper::Keeper;
 use cd_block::hints::{
     QR_QUERY_ADDITIONAL, QR_QUERY_ANSWER, QR_QUERY_AUTHORITY, QR_QUESTIONS, QR_RESPONSE_ADDITIONAL,
     QR_RESPONSE_ANSWER, QR_RESPONSE_AUTHORITY, RR_RDATA, RR_TTL,
 };
-use cd_block::{Hints, KeptLists, KeptQuestion, KeptRr, Params};
+use cd_block::{Hints, KeptLists, KeptQuestion, KeptRr};
 use cd_message::{Message, OPT, Question, Rr};
 use cd_name::{Blob, List};
 use std::alloc::{AllocError, Global};
 
-/// A list with no items.
+// A list with no items.
 fn no_items<T>(alloc: Global) -> List<T>
     ensures { result ≡ [] }
 {
     List::from_vec(Vec::new(alloc))
 }
 
-/// A question, whole.
+// A question, whole.
 fn kept_question(alloc: Global, question: &Question) -> Result<KeptQuestion, AllocError>
     ensures { IfOk result (λ whole. whole ≡ Lists.kept_question question.now) }
 {
@@ -35,7 +35,7 @@ fn kept_question(alloc: Global, question: &Question) -> Result<KeptQuestion, All
     })
 }
 
-/// The second and later questions, where their hint is set.
+// The second and later questions, where their hint is set.
 fn kept_questions(
     alloc: Global,
     hints: Hints,
@@ -53,7 +53,7 @@ fn kept_questions(
     Ok(List::from_vec(list))
 }
 
-/// The RDATA of a record, where its hint is set.
+// The RDATA of a record, where its hint is set.
 fn kept_rdata(alloc: Global, hints: Hints, record: &Rr) -> Result<Option<Blob>, AllocError>
     ensures { IfOk result (λ rdata. rdata ≡ Hinted.kept hints.rr RR_RDATA (Some «record».now.rdata)) }
 {
@@ -64,7 +64,7 @@ fn kept_rdata(alloc: Global, hints: Hints, record: &Rr) -> Result<Option<Blob>, 
     }
 }
 
-/// A record, with its TTL and its RDATA where their hints are set.
+// A record, with its TTL and its RDATA where their hints are set.
 fn kept_rr(alloc: Global, hints: Hints, record: &Rr) -> Result<KeptRr, AllocError>
     ensures { IfOk result (λ rr. rr ≡ Lists.kept_rr hints «record».now) }
 {
@@ -80,102 +80,99 @@ fn kept_rr(alloc: Global, hints: Hints, record: &Rr) -> Result<KeptRr, AllocErro
     })
 }
 
-/// Whether a record is kept in a list: its type is listed, and where the list has no OPT record it is none.
-fn is_kept(types: &[u16], with_opt: bool, record: &Rr) -> bool
-    ensures { result ≡ ((with_opt || not (is_opt «record».now)) && Lists.is_listed_record types.now «record».now) }
+// Whether a record is kept in a list: its type is listed, and where the list has no OPT record it is none.
+fn is_kept(keeper: &Keeper, with_opt: bool, record: &Rr) -> bool
+    ensures { result ≡ ((with_opt || not (is_opt «record».now)) && Lists.is_listed_record keeper.now.rr_types «record».now) }
 {
-    (with_opt || record.rtype != OPT) && is_listed_type(types, record.rtype)
+    (with_opt || record.rtype != OPT) && keeper.lists(record.rtype)
 }
 
-/// The records whose types are listed, in their order, with OPT records among them or without.
-#[tactic(auto, using(crate::proofs::Keeping::kept_among_none, crate::proofs::Keeping::kept_among_keeps, crate::proofs::Keeping::kept_among_skips, crate::proofs::Keeping::kept_among_all))]
+// The records whose types are listed, in their order, with OPT records among them or without.
+#[tactic(auto, using(crate::proofs::KeptAmong::kept_among_none, crate::proofs::KeptAmong::kept_among_keeps, crate::proofs::KeptAmong::kept_among_skips, crate::proofs::KeptAmong::kept_among_all))]
 fn listed_records(
     alloc: Global,
-    params: &Params,
+    keeper: &Keeper,
     with_opt: bool,
     records: &[Rr],
 ) -> Result<List<KeptRr>, AllocError>
     ensures { IfOk result (λ list. list ≡
-        map (Lists.kept_rr params.now.hints) (filter (Lists.is_listed_record params.now.rr_types) (if with_opt then records.now else Lists.without_opt records.now))) }
+        map (Lists.kept_rr keeper.now.hints)
+        (filter (Lists.is_listed_record keeper.now.rr_types) (if with_opt then records.now else Lists.without_opt records.now))) }
 {
-    let types = params.rr_types.as_slice();
+    let hints = keeper.params.hints;
     let mut list = Vec::new(alloc);
     'records: for record in records {
-        if is_kept(types, with_opt, record) {
-            list.push(kept_rr(alloc, params.hints, record)?)?;
+        if is_kept(keeper, with_opt, record) {
+            list.push(kept_rr(alloc, hints, record)?)?;
         }
     }
     Ok(List::from_vec(list))
 }
 
-/// The records whose types are listed, in their order, where the hint of their list is set.
+// The records whose types are listed, in their order, where the hint of their list is set, with OPT records among them or without.
 fn kept_records(
     alloc: Global,
-    params: &Params,
+    keeper: &Keeper,
     hint: u32,
+    with_opt: bool,
     records: &List<Rr>,
 ) -> Result<List<KeptRr>, AllocError>
-    ensures { IfOk result (λ list. list ≡ Lists.kept_records params.now hint records.now) }
+    ensures { IfOk result (λ list. list ≡
+        Lists.kept_records keeper.now hint (if with_opt then records.now else Lists.without_opt records.now)) }
 {
-    if !is_hinted(params.hints.qr, hint) {
+    if !is_hinted(keeper.params.hints.qr, hint) {
         return Ok(no_items(alloc));
     }
-    listed_records(alloc, params, true, records.as_slice())
+    listed_records(alloc, keeper, with_opt, records.as_slice())
 }
 
-/// The same of the records that are no OPT records.
-fn kept_records_without_opt(
-    alloc: Global,
-    params: &Params,
-    hint: u32,
-    records: &List<Rr>,
-) -> Result<List<KeptRr>, AllocError>
-    ensures { IfOk result (λ list. list ≡ Lists.kept_records params.now hint (Lists.without_opt records.now)) }
-{
-    if !is_hinted(params.hints.qr, hint) {
-        return Ok(no_items(alloc));
-    }
-    listed_records(alloc, params, false, records.as_slice())
-}
-
-/// The lists of a query; its OPT record is in its signature, and not here. An `Err` is for want of memory.
+// The lists of a query; its OPT record is in its signature, and not here. An `Err` is for want of memory.
 pub(crate) fn query_lists(
     alloc: Global,
-    params: &Params,
+    keeper: &Keeper,
     query: &Message,
 ) -> Result<KeptLists, AllocError>
-    ensures { IfOk result (λ lists. lists ≡ Lists.query_lists params.now query.now) }
+    ensures { IfOk result (λ lists. lists ≡ Lists.query_lists keeper.now query.now) }
 {
+    let hints = keeper.params.hints;
     Ok(KeptLists {
-        question: kept_questions(alloc, params.hints, &query.questions)?,
-        answer: kept_records(alloc, params, QR_QUERY_ANSWER, &query.answers)?,
-        authority: kept_records(alloc, params, QR_QUERY_AUTHORITY, &query.authority)?,
-        additional: kept_records_without_opt(
+        question: kept_questions(alloc, hints, &query.questions)?,
+        answer: kept_records(alloc, keeper, QR_QUERY_ANSWER, true, &query.answers)?,
+        authority: kept_records(alloc, keeper, QR_QUERY_AUTHORITY, true, &query.authority)?,
+        additional: kept_records(alloc, keeper, QR_QUERY_ADDITIONAL, false, &query.additional)?,
+    })
+}
+
+// The lists of a response. An `Err` is for want of memory.
+pub(crate) fn response_lists(
+    alloc: Global,
+    keeper: &Keeper,
+    response: &Message,
+) -> Result<KeptLists, AllocError>
+    ensures { IfOk result (λ lists. lists ≡ Lists.response_lists keeper.now response.now) }
+{
+    let hints = keeper.params.hints;
+    Ok(KeptLists {
+        question: kept_questions(alloc, hints, &response.questions)?,
+        answer: kept_records(alloc, keeper, QR_RESPONSE_ANSWER, true, &response.answers)?,
+        authority: kept_records(
             alloc,
-            params,
-            QR_QUERY_ADDITIONAL,
-            &query.additional,
+            keeper,
+            QR_RESPONSE_AUTHORITY,
+            true,
+            &response.authority,
+        )?,
+        additional: kept_records(
+            alloc,
+            keeper,
+            QR_RESPONSE_ADDITIONAL,
+            true,
+            &response.additional,
         )?,
     })
 }
 
-/// The lists of a response. An `Err` is for want of memory.
-pub(crate) fn response_lists(
-    alloc: Global,
-    params: &Params,
-    response: &Message,
-) -> Result<KeptLists, AllocError>
-    ensures { IfOk result (λ lists. lists ≡ Lists.response_lists params.now response.now) }
-{
-    Ok(KeptLists {
-        question: kept_questions(alloc, params.hints, &response.questions)?,
-        answer: kept_records(alloc, params, QR_RESPONSE_ANSWER, &response.answers)?,
-        authority: kept_records(alloc, params, QR_RESPONSE_AUTHORITY, &response.authority)?,
-        additional: kept_records(alloc, params, QR_RESPONSE_ADDITIONAL, &response.additional)?,
-    })
-}
-
-/// No list.
+// No list.
 pub(crate) fn no_lists(alloc: Global) -> KeptLists
     ensures { result ≡ Lists.no_lists }
 {

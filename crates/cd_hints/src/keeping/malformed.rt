@@ -7,18 +7,18 @@ ghost use Rattle.cd_hints.specs.Records.{record_parts, main_event, payload_in, H
 ghost use Rattle.cd_hints.specs.Ticks.{IsAtOrBefore};
 ghost use Rattle.cd_hints.specs.Validity.{AreValidParams, IsValid};
 
-use crate::copies::copy_blob;
+use crate::keeping::copies::copy_blob;
+use crate::keeping::flags::transport_flags;
+use crate::keeping::stored_address::{client_prefix, server_prefix, stored_address};
+use crate::keeping::ticks::ticks_since;
 use crate::record::Rec;
 use crate::settings::Settings;
-use crate::signature_flags::transport_flags;
-use crate::stored_address::{client_address, server_address};
-use crate::ticks::ticks_since;
 use cd_block::{KeptData, KeptMalformed, Params, Stamp};
 use cd_ident::{Body, Event};
 use cd_name::Blob;
 use std::alloc::{AllocError, Global};
 
-/// A copy of the payload of a malformed message.
+// A copy of the payload of a malformed message.
 fn copy_payload(alloc: Global, body: &Body) -> Result<Option<Blob>, AllocError>
     ensures { IfOk result (λ payload. payload ≡ payload_in body.now) }
 {
@@ -32,12 +32,13 @@ fn copy_payload(alloc: Global, body: &Body) -> Result<Option<Blob>, AllocError>
     }
 }
 
-/// The data of a malformed message, whole.
+// The data of a malformed message, whole.
 fn kept_data(alloc: Global, params: &Params, event: &Event) -> Result<KeptData, AllocError>
     requires { AreValidParams params.now }
     ensures { IfOk result (λ kept. kept ≡ Items.kept_data params.now (parts_of event.now)) }
 {
-    let address = server_address(alloc, &params.prefixes, &event.server)?;
+    let bits = server_prefix(&params.prefixes, event.server.v6);
+    let address = stored_address(alloc, bits, &event.server)?;
     let payload = copy_payload(alloc, &event.body)?;
     Ok(KeptData {
         server_address: Some(address),
@@ -64,7 +65,8 @@ pub fn kept_malformed(
     let params = &settings.params;
     let event = rec.main_event();
     let offset = ticks_since(params.ticks, earliest, event.time);
-    let address = client_address(alloc, &params.prefixes, &event.client)?;
+    let bits = client_prefix(&params.prefixes, event.client.v6);
+    let address = stored_address(alloc, bits, &event.client)?;
     let data = kept_data(alloc, params, event)?;
     Ok(KeptMalformed {
         time_offset: Some(offset),

@@ -4,7 +4,7 @@ ghost use Rattle.std.specs.Prelude.{◌≡◌, ◌≤◌, ◌^◌, IfOk, replica
 ghost use Rattle.cd_hints.specs.Listing.{is_listed, listed_below, listed_types, listed_opcodes};
 ghost use Rattle.cd_hints.specs.Reaches.{AreReaches};
 
-use crate::interval::Interval;
+use crate::settings::interval::Interval;
 use cd_name::List;
 use std::alloc::{AllocError, Global};
 

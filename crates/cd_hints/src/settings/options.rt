@@ -1,11 +1,11 @@
 //! The options of `compact`: a table of names, intervals and defaults.
 
 ghost use Rattle.std.specs.Prelude.{◌≡◌, ◌≢◌, ◌↔◌, All, IsTrue, MatchOption};
-ghost use Rattle.cd_hints.specs.declared.options.NumberOption.{NumberOption};
-ghost use Rattle.cd_hints.specs.declared.options.ListOption.{ListOption};
+ghost use Rattle.cd_hints.specs.declared.settings.options.NumberOption.{NumberOption};
+ghost use Rattle.cd_hints.specs.declared.settings.options.ListOption.{ListOption};
 ghost use Rattle.cd_hints.specs.Options.{name_of, option_range, option_default, list_name_of, list_range, list_default, IsAllowed, Admits};
 
-use crate::interval::Interval;
+use crate::settings::interval::Interval;
 use cd_block::hints::{QR_PROCESSING_DATA, SIG_QR_TYPE};
 
 /// An option whose value is a number.
@@ -94,7 +94,7 @@ static DEFAULT_RR_TYPES: [Interval; 2] = [
     },
 ];
 
-/// The first of some options with a name.
+// The first of some options with a name.
 fn first_named(options: &[NumberOption], name: &[u8]) -> Option<NumberOption>
     ensures { MatchOption result (All (λ option. name_of option ≢ name.now) options.now) (λ option. name_of option ≡ name.now) }
 {
@@ -184,7 +184,7 @@ impl NumberOption {
         }
     }
 
-    /// Whether it may say this number, if the number is in its range.
+    // Whether it may say this number, if the number is in its range.
     #[tactic(auto, using(crate::proofs::HintBits::and_1024, crate::proofs::HintBits::and_8))]
     fn is_allowed(self, number: u64) -> bool
         ensures { IsTrue result ↔ IsAllowed self number }

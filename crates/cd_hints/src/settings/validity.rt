@@ -5,11 +5,11 @@ ghost use Rattle.std.specs.List.Sorted.{IsStrictlyIncreasing};
 ghost use Rattle.cd_hints.specs.Options.{Admits};
 ghost use Rattle.cd_hints.specs.Validity.{AreValidHints, AreValidPrefixes, AreValidParams, IsValid};
 
-use crate::options::NumberOption;
 use crate::settings::Settings;
+use crate::settings::options::NumberOption;
 use cd_block::{Hints, Params};
 
-/// Whether a number that must be there is one that the option may say.
+// Whether a number that must be there is one that the option may say.
 fn admits_present(option: NumberOption, number: Option<u64>) -> bool
     ensures { IsTrue result ↔ IsSomeAnd number (Admits option) }
 {
@@ -19,7 +19,7 @@ fn admits_present(option: NumberOption, number: Option<u64>) -> bool
     }
 }
 
-/// Whether the bits of a prefix, if they are there, are a number that the option may say.
+// Whether the bits of a prefix, if they are there, are a number that the option may say.
 fn admits_bits(option: NumberOption, bits: Option<u8>) -> bool
     ensures { IsTrue result ↔ IfSome bits (Admits option) }
 {
@@ -47,8 +47,8 @@ fn are_valid_prefixes(prefixes: &[Option<u8>; 4]) -> bool
         && admits_bits(NumberOption::ServerPrefix6, prefixes[3])
 }
 
-/// Whether each number is below the next.
-fn ascends(numbers: &[u16]) -> bool
+// Whether each number is below the next.
+pub(crate) fn ascends(numbers: &[u16]) -> bool
     ensures { IsTrue result ↔ IsStrictlyIncreasing numbers.now }
 {
     numbers.is_sorted_by(|first, second| *first < *second)

@@ -1,5 +1,5 @@
 use Rattle.cd_hints.proofs.WholeBytes.{whole_address}
-use Rattle.cd_hints.proofs.law.whole_addresses_stay.Goals as goal
+use Rattle.cd_hints.proofs.laws.whole_addresses_stay.Goals as goal
 
 pub returns : goal.returns
 returns c = whole_address

@@ -1,6 +1,6 @@
 use Rattle.std.proofs.Common.{◌≡◌, ◌++◌, take, drop}
 use Rattle.cd_hints.specs.Prefix.{first_bits}
-use Rattle.cd_hints.proofs.address_prefix.prefix.Given as goal
+use Rattle.cd_hints.proofs.keeping.address_prefix.prefix.Given as goal
 
 -- the bytes that were cut, before the first bits of those that are left, are the first bits of all
 abbrev pub invariant-loop-octet : goal.invariant-loop-octet

@@ -1,6 +1,6 @@
 use Rattle.std.proofs.Common.{rules}
 use Rattle.cd_hints.proofs.ItemFields.{item_by_fields}
-use Rattle.cd_hints.proofs.item.kept_item.Goals as goal
+use Rattle.cd_hints.proofs.keeping.item.kept_item.Goals as goal
 
 pub returns : goal.returns
 returns c =

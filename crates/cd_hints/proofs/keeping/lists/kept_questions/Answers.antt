@@ -5,7 +5,7 @@ use Rattle.std.proofs.lemmas.Iterator.Consumers.{YieldsList-end}
 use Rattle.cd_block.specs.declared.hints.TheConstants as hint
 use Rattle.cd_hints.specs.Hinted.{is_hinted}
 use Rattle.cd_hints.specs.Lists.{kept_question}
-use Rattle.cd_hints.proofs.lists.kept_questions.Goals as goal
+use Rattle.cd_hints.proofs.keeping.lists.kept_questions.Goals as goal
 
 pub returns : goal.returns
 returns c =

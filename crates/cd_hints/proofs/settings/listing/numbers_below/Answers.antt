@@ -5,8 +5,8 @@ use Rattle.std.proofs.lemmas.List.{get_or_read}
 use Rattle.cd_hints.specs.Listing.{is_listed}
 use Rattle.cd_hints.proofs.Listed.{listed_below_none, listed_below_holds, listed_below_skips}
 use Rattle.cd_hints.proofs.Reach.{reaches_from_below, none_below, more_below, listed_is, max_tells}
-use Rattle.cd_hints.proofs.listing.numbers_below.Goals as goal
-use Rattle.cd_hints.proofs.listing.numbers_below.Goals.{then-number-reach+in_ok-push, else-number-reach}
+use Rattle.cd_hints.proofs.settings.listing.numbers_below.Goals as goal
+use Rattle.cd_hints.proofs.settings.listing.numbers_below.Goals.{then-number-reach+in_ok-push, else-number-reach}
 
 pub loop-number-init : goal.loop-number-init
 loop-number-init c = record {

@@ -1,8 +1,8 @@
 use Rattle.std.proofs.Common.{◌≡◌, ◌∙◌, sym, ap, true, false, Bool, arith}
 use Rattle.cd_hints.specs.Listing.{is_listed}
 use Rattle.cd_hints.proofs.Listed.{bits_hold, bits_skip}
-use Rattle.cd_hints.proofs.listing.opcodes_of.Goals as goal
-use Rattle.cd_hints.proofs.listing.opcodes_of.Goals.{then-is_listed, else-is_listed}
+use Rattle.cd_hints.proofs.settings.listing.opcodes_of.Goals as goal
+use Rattle.cd_hints.proofs.settings.listing.opcodes_of.Goals.{then-is_listed, else-is_listed}
 
 pub loop-opcode-preserved : goal.loop-opcode-preserved
 loop-opcode-preserved c =

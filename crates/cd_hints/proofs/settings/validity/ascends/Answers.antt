@@ -1,7 +1,7 @@
 use Rattle.std.proofs.Common.{◌≡◌, rules, nat_lt}
 use Rattle.std.proofs.lemmas.List.Sorted.{answers_always}
 use Rattle.cd_hints.proofs.Ascending.{ascends_decided}
-use Rattle.cd_hints.proofs.validity.ascends.Goals as goal
+use Rattle.cd_hints.proofs.settings.validity.ascends.Goals as goal
 
 pub returns : goal.returns
 returns c = ascends_decided c.args.numbers.now c.is_sorted_by.result
