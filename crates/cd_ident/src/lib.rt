@@ -30,4 +30,3 @@ pub use event_making::{GREATEST_WEIGHT, event_of};
 pub use event_rules::EventRules;
 pub use header::opcode_of;
 pub use identifiers::{Ids, compatible_ids};
-pub use primary::TRANSPORT;

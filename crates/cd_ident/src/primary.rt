@@ -6,8 +6,8 @@ ghost use Rattle.cd_ident.specs.KeptEnds.{kept_ends};
 
 use crate::ends::Ends;
 
-/// The index of the transport in a primary.
-pub const TRANSPORT: usize = 37;
+// The index of the transport in a primary.
+pub(crate) const TRANSPORT: usize = 37;
 
 // The transport of UDP (RFC 8618 7.3.2.3.2).
 const UDP: u8 = 0;
