@@ -7,7 +7,10 @@
 //!
 //! A struct stands for a map of the format, and a field for the key of its name. A field that is an `Option` stands for a key
 //! that may be absent. Keys have constants in `keys`, the bits of hints in `hints`, and those
-//! of flags in `flags`.
+//! of flags in `flags`. That each is the number of the format is stated in `laws`.
+//!
+//! Example: where the table `name_rdata` holds the names example.com and example.org, an item whose query asks for example.org has
+//! 1 as its `query_name` in a `BlockItem`, and the name itself in a `KeptItem`.
 //!
 //! | Type | Map | Section |
 //! |---|---|---|

@@ -7,4 +7,5 @@ mod WholeBytes
 mod HeaderFlags
 mod SignatureFields
 mod ItemFields
-mod Keeping
+mod KeptAmong
+mod Searching

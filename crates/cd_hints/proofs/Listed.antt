@@ -9,7 +9,7 @@ use Rattle.std.proofs.lemmas.List.Sums.{sum_by-append}
 use Rattle.std.proofs.Math.Nat.{mod-eq_of_lt, one-mul, pow-suc}
 use Rattle.std.proofs.Math.Pow.{pow-lt}
 use Rattle.std.proofs.lemmas.List.Kept.{IsStrictlyIncreasing-filter}
-use Rattle.cd_hints.specs.declared.interval.Interval.{Interval}
+use Rattle.cd_hints.specs.declared.settings.interval.Interval.{Interval}
 use Rattle.cd_hints.specs.Listing.{is_listed, listed_below}
 
 -- one more number stands at the end

@@ -12,14 +12,14 @@ whole_byte bits byte enough =
     let eight : min bits 8 ≡ 8 = omega arith in
     ap (λ k. byte / 2 ^ (8 - k) * 2 ^ (8 - k)) eight ∙ omega arith
 
--- with eight bits for each byte the bytes stay, and what stands behind them has the bits that are left
-first_bits_append : (bits : ℕ) (bytes behind : List ℕ) → 8 * length bytes ≤ bits →
-    first_bits bits (bytes ++ behind) ≡ bytes ++ first_bits (bits - 8 * length bytes) behind
-first_bits_append bits [] behind enough = ap (λ k. first_bits k behind) (omega arith)
-first_bits_append bits (byte ∷ bytes) behind enough =
-    let rest : first_bits (bits - 8) (bytes ++ behind) ≡ bytes ++ first_bits (bits - 8 - 8 * length bytes) behind = first_bits_append (bits - 8) bytes behind (omega arith) in
+-- with eight bits for each byte the bytes stay, and what stands after them has the bits that are left
+first_bits_append : (bits : ℕ) (bytes after : List ℕ) → 8 * length bytes ≤ bits →
+    first_bits bits (bytes ++ after) ≡ bytes ++ first_bits (bits - 8 * length bytes) after
+first_bits_append bits [] after enough = ap (λ k. first_bits k after) (omega arith)
+first_bits_append bits (byte ∷ bytes) after enough =
+    let rest : first_bits (bits - 8) (bytes ++ after) ≡ bytes ++ first_bits (bits - 8 - 8 * length bytes) after = first_bits_append (bits - 8) bytes after (omega arith) in
     let left : bits - 8 - 8 * length bytes ≡ bits - 8 * length (byte ∷ bytes) = omega arith in
-    ap (λ first. first ∷ first_bits (bits - 8) (bytes ++ behind)) (whole_byte bits byte (omega arith)) ∙ ap (λ bs. byte ∷ bs) (rest ∙ ap (λ k. bytes ++ first_bits k behind) left)
+    ap (λ first. first ∷ first_bits (bits - 8) (bytes ++ after)) (whole_byte bits byte (omega arith)) ∙ ap (λ bs. byte ∷ bs) (rest ∙ ap (λ k. bytes ++ first_bits k after) left)
 
 -- any bits of a byte that is 0 are 0
 zero_byte : (bits : ℕ) → first_bits_of_byte bits 0 ≡ 0
@@ -36,7 +36,7 @@ whole_bytes : (bits : ℕ) (bytes : List ℕ) → 8 * length bytes ≤ bits → 
 whole_bytes bits bytes enough =
     ap (first_bits bits) (sym (append-nil bytes)) ∙ first_bits_append bits bytes [] enough ∙ append-nil bytes
 
--- the same of the bytes of an address, by its version: of IPv4 those behind the first four are 0
+-- the same of the bytes of an address, by its version: of IPv4 those after the first four are 0
 stays_by_version : (v6 : Bool) (octets : List ℕ) → (v6 ≡ false → drop 4 octets ≡ replicate 12 0) → length octets ≡ 16 → first_bits (width_of v6) octets ≡ octets
 stays_by_version true octets padded size = whole_bytes 128 octets (omega arith)
 stays_by_version false octets padded size =

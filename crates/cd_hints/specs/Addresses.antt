@@ -11,7 +11,7 @@ client_prefix prefixes v6 = slice_index_or prefixes (if v6 then 1 else 0) None
 abbrev pub server_prefix : List (Option ℕ) → Bool → Option ℕ
 server_prefix prefixes v6 = slice_index_or prefixes (if v6 then 3 else 2) None
 
--- the bytes of an address that hold these bits, with the bits behind them 0
+-- the bytes of an address that hold these bits, with the bits after them 0
 abbrev pub stored_address : Option ℕ → Addr → List ℕ
 stored_address bits addr = take (prefix_size addr bits) (prefix_bytes addr bits)
 

@@ -1,24 +1,20 @@
 -- The flags of a signature (RFC 8618 7.3.2.3.2).
-use Rattle.std.specs.Prelude.{ℕ, ◌+◌, ◌*◌, Bool, nat_eq, length, slice_index, is_some, false, if◌then◌else◌, Option}
+use Rattle.std.specs.Prelude.{ℕ, ◌+◌, ◌*◌, Bool, nat_eq, length, is_some, false, if◌then◌else◌, Option}
 use Rattle.std.specs.Int.{bit_at}
 use Rattle.std.specs.Option.{option_map_or}
 use Rattle.cd_block.specs.declared.flags.TheConstants as flag
 use Rattle.cd_edns.specs.Opts.{opt_of_message}
 use Rattle.cd_message.specs.declared.message.Message.{Message}
 use Rattle.cd_ident.specs.Events.{EventParts}
-use Rattle.cd_ident.specs.declared.primary.TheConstants.{TRANSPORT}
+use Rattle.cd_ident.specs.Identifiers.{transport_of}
 
 -- a flag that is set where the test holds
 abbrev pub flag_where : Bool → ℕ → ℕ
 flag_where test flag = if test then flag else 0
 
--- The transport of an event, a byte of its primary: 0 for UDP.
-abbrev pub transport_of : EventParts → ℕ
-transport_of e = slice_index e.ids.primary TRANSPORT
-
--- The transport flags: the version of IP, the transport in the bits 1 to 4, and whether bytes stand behind the query.
+-- The transport flags: the version of IP, the transport in the bits 1 to 4, and whether bytes stand after the query.
 abbrev pub transport_flags : EventParts → Bool → ℕ
-transport_flags e trailing = flag_where e.client.v6 flag.TRANSPORT_IPV6 + 2 * transport_of e + flag_where trailing flag.TRANSPORT_TRAILING_BYTES
+transport_flags e trailing = flag_where e.client.v6 flag.TRANSPORT_IPV6 + 2 * transport_of e.ids + flag_where trailing flag.TRANSPORT_TRAILING_BYTES
 
 -- the message has an OPT record
 abbrev pub has_opt : Message → Bool

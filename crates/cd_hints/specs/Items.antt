@@ -38,7 +38,7 @@ query_opt r = option_and_then opt_of_message (query_message r)
 abbrev pub main_message : RecordParts → Option Message
 main_message r = event_message (main_event r)
 
--- bytes stand behind the query's message
+-- bytes stand after the query's message
 abbrev pub is_query_trailing : RecordParts → Bool
 is_query_trailing r = option_map_or (λ e. e.trailing) (query_of r) false
 

@@ -2,7 +2,7 @@
 use Rattle.std.specs.Prelude.{ℕ, ◌^◌, Bool, List, filter}
 use Rattle.std.specs.Int.{is_in_range}
 use Rattle.std.specs.List.{list_any, range_with_len, sum_by}
-use Rattle.cd_hints.specs.declared.interval.Interval.{Interval}
+use Rattle.cd_hints.specs.declared.settings.interval.Interval.{Interval}
 
 -- one of the parts holds the number
 abbrev pub is_listed : List Interval → ℕ → Bool

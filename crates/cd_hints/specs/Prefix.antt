@@ -2,11 +2,11 @@
 use Rattle.std.specs.Prelude.{◌≡◌, ℕ, ◌+◌, ◌-◌, ◌*◌, ◌/◌, ◌^◌, min, Bool, List, [], ◌∷◌, if◌then◌else◌, Option, None, unwrap_or, length}
 use Rattle.cd_packet.specs.declared.address.Addr.{Addr}
 
--- the first bits of a byte, as many as are given, and 0 behind them
+-- the first bits of a byte, as many as are given, and 0 after them
 abbrev pub first_bits_of_byte : ℕ → ℕ → ℕ
 first_bits_of_byte bits byte = byte / 2 ^ (8 - bits) * 2 ^ (8 - bits)
 
--- the first bits of some bytes, and 0 behind them: whole bytes, then one that is cut, and then 0
+-- the first bits of some bytes, and 0 after them: whole bytes, then one that is cut, and then 0
 abbrev pub first_bits : ℕ → List ℕ → List ℕ
 first_bits bits [] = []
 first_bits bits (byte ∷ bytes) = first_bits_of_byte (min bits 8) byte ∷ first_bits (bits - 8) bytes

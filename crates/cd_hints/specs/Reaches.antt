@@ -1,7 +1,7 @@
 -- How far the parts of a list reach.
 use Rattle.std.specs.Prelude.{◌≡◌, ℕ, ◌<◌, nat_lt, nat_le, ◌==◌, Bool, ◌&&◌, List, length, slice_index}
 use Rattle.std.specs.List.{list_any}
-use Rattle.cd_hints.specs.declared.interval.Interval.{Interval}
+use Rattle.cd_hints.specs.declared.settings.interval.Interval.{Interval}
 
 -- a part begins at a number and does not end below another
 abbrev pub reaches_from : ℕ → ℕ → Interval → Bool

@@ -3,9 +3,9 @@ use Rattle.std.specs.Prelude.{ℕ, nat_eq, if◌then◌else◌, Option, Some, No
 use Rattle.cd_block.specs.declared.hints.Hints.{Hints}
 use Rattle.cd_block.specs.declared.params.Params.{Params}
 use Rattle.cd_hints.specs.declared.settings.Settings.{Settings}
-use Rattle.cd_hints.specs.declared.options.NumberOption.{NumberOption}
-use Rattle.cd_hints.specs.declared.options.NumberOption.TheVariants.{Workers, Ticks, QueryTimeout, SkewTimeout, Window, WindowBytes, BlockItems, BlockBytes, QrHints, SigHints, RrHints, OtherHints, ClientPrefix4, ClientPrefix6, ServerPrefix4, ServerPrefix6, Port, MaxInput}
-use Rattle.cd_hints.specs.declared.options.ListOption.TheVariants.{Opcodes, RrTypes}
+use Rattle.cd_hints.specs.declared.settings.options.NumberOption.{NumberOption}
+use Rattle.cd_hints.specs.declared.settings.options.NumberOption.TheVariants.{Workers, Ticks, QueryTimeout, SkewTimeout, Window, WindowBytes, BlockItems, BlockBytes, QrHints, SigHints, RrHints, OtherHints, ClientPrefix4, ClientPrefix6, ServerPrefix4, ServerPrefix6, Port, MaxInput}
+use Rattle.cd_hints.specs.declared.settings.options.ListOption.TheVariants.{Opcodes, RrTypes}
 use Rattle.cd_hints.specs.Listing.{listed_types, listed_opcodes}
 use Rattle.cd_hints.specs.Options.{option_range, option_default, list_default}
 
@@ -57,9 +57,9 @@ with_params params s = record s { params = params }
 abbrev pub with_hints : Hints → Settings → Settings
 with_hints hints s = record s { params = record s.params { hints = hints } }
 
--- the settings with the prefix of an option at its place
+-- the settings with the prefix of an option at its index
 abbrev pub with_prefix : ℕ → NumberOption → ℕ → Settings → Settings
-with_prefix place option bits s = record s { params = record s.params { prefixes = slice_set s.params.prefixes place (stored_prefix option bits) } }
+with_prefix index option bits s = record s { params = record s.params { prefixes = slice_set s.params.prefixes index (stored_prefix option bits) } }
 
 -- the settings with the number of an option in the field that it stands for
 abbrev pub with_number : NumberOption → ℕ → Settings → Settings

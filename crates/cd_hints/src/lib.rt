@@ -5,7 +5,7 @@
 //! - An *option* is a name of the command line and what it may say: a number (`NumberOption`) or a list (`ListOption`).
 //!   Each has a name, an interval and a default.
 //! - A *list* is written as its parts, each an `Interval`: `0-6` holds the numbers from 0 to 6.
-//! - A *prefix* is the first bits of an address, with the bits behind them 0.
+//! - A *prefix* is the first bits of an address, with the bits after them 0.
 //! - A *record* (`Rec`) is a query with its response, or an event that stands alone.
 //! - An *item* is what is kept of a pair, a query or a response (`kept_item`): each field where its *hint* is set and it has a
 //!   value. A malformed message is kept whole (`kept_malformed`). Resource records of types that are not listed are *dropped*.
@@ -14,37 +14,15 @@
 //! www.example.com, a response delay of 20,000 ticks of a microsecond, and a signature with the type and the class.
 #![tactic(auto)]
 
-mod address_prefix;
-mod copies;
-mod dropping;
-mod hint;
-mod interval;
-mod item;
-mod law;
-mod listed_types;
-mod listing;
-mod lists;
-mod malformed;
-mod options;
+mod keeping;
+pub mod laws;
 mod record;
 mod settings;
-mod signature;
-mod signature_flags;
-mod stored_address;
 #[cfg(test)]
 mod tests;
-mod ticks;
-mod validity;
 
-pub use address_prefix::prefix;
-pub use dropping::dropped;
-pub use interval::Interval;
-pub use item::kept_item;
-pub use law::whole_addresses_stay;
-pub use listing::{opcodes_of, types_of};
-pub use malformed::kept_malformed;
-pub use options::{ListOption, NumberOption};
+pub use keeping::{dropped, kept_item, kept_malformed, prefix, tick_of};
 pub use record::Rec;
-pub use settings::{Settings, default_settings};
-pub use ticks::tick_of;
-pub use validity::valid;
+pub use settings::{
+    Interval, ListOption, NumberOption, Settings, default_settings, opcodes_of, types_of, valid,
+};

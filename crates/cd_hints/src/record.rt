@@ -15,9 +15,9 @@ use cd_message::Message;
 pub enum Rec {
     /// A query and its response.
     Pair { query: Event, response: Event },
-    /// A query with no response.
+    /// A query with no response: an unmatched query.
     Query(Event),
-    /// A response with no query.
+    /// A response with no query: an unmatched response.
     Response(Event),
     /// A payload that is no message.
     Malformed(Event),
@@ -25,7 +25,7 @@ pub enum Rec {
     Discarded(Event),
 }
 
-/// The message of an event, where it has one.
+// The message of an event, where it has one.
 fn message_of(event: &Event) -> Option<&Message>
     ensures message { option_copied result ≡ event_message (parts_of event.now) }
     ensures valid { IfSome result (λ m. Valid m.now) }
@@ -54,7 +54,7 @@ impl Rec {
         }
     }
 
-    /// The query, where there is one.
+    // The query, where there is one.
     pub(crate) fn query(&self) -> Option<&Event>
         ensures { option_map (λ e. parts_of e.now) result ≡ query_of (record_parts self.now) }
     {
@@ -67,7 +67,7 @@ impl Rec {
         }
     }
 
-    /// The response, where there is one.
+    // The response, where there is one.
     pub(crate) fn response(&self) -> Option<&Event>
         ensures { option_map (λ e. parts_of e.now) result ≡ response_of (record_parts self.now) }
     {
@@ -80,7 +80,7 @@ impl Rec {
         }
     }
 
-    /// The message of the main event.
+    // The message of the main event.
     pub(crate) fn main_message(&self) -> Option<&Message>
         ensures message { option_copied result ≡ main_message (record_parts self.now) }
         ensures valid { IfSome result (λ m. Valid m.now) }
@@ -88,7 +88,7 @@ impl Rec {
         message_of(self.main_event())
     }
 
-    /// The message of the query, where there is one.
+    // The message of the query, where there is one.
     pub(crate) fn query_message(&self) -> Option<&Message>
         ensures message { option_copied result ≡ query_message (record_parts self.now) }
         ensures valid { IfSome result (λ m. Valid m.now) }
@@ -99,7 +99,7 @@ impl Rec {
         }
     }
 
-    /// The message of the response, where there is one.
+    // The message of the response, where there is one.
     pub(crate) fn response_message(&self) -> Option<&Message>
         ensures message { option_copied result ≡ response_message (record_parts self.now) }
         ensures valid { IfSome result (λ m. Valid m.now) }

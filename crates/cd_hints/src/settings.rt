@@ -5,10 +5,17 @@ ghost use Rattle.cd_hints.specs.Settings.{default_settings, stored_prefix, with_
 ghost use Rattle.cd_hints.specs.Options.{Admits};
 ghost use Rattle.cd_hints.specs.Validity.{IsValid};
 
-use crate::listing::{opcodes_of, types_of};
-use crate::options::{ListOption, NumberOption};
+mod interval;
+mod listing;
+mod options;
+pub(crate) mod validity;
+
 use cd_block::{Hints, Params};
+pub use interval::Interval;
+pub use listing::{opcodes_of, types_of};
+pub use options::{ListOption, NumberOption};
 use std::alloc::{AllocError, Global};
+pub use validity::valid;
 
 /// The settings of a compaction: what the file says in its parameters, and the limits of the run.
 #[derive(Debug, Drop)]
@@ -28,7 +35,7 @@ pub struct Settings {
     pub max_input: u64,
 }
 
-/// A prefix as it is stored: one of the full width is absent.
+// A prefix as it is stored: one of the full width is absent.
 fn stored_prefix(option: NumberOption, bits: u64) -> Option<u8>
     requires { bits < 256 }
     ensures { result ≡ stored_prefix option bits }

@@ -1,7 +1,0 @@
-use Rattle.std.proofs.Common.{◌≡◌, take}
-use Rattle.cd_hints.proofs.Keeping.{kept_among}
-use Rattle.cd_hints.proofs.lists.listed_records.Given as goal
-
--- the list so far is what is kept of the records so far
-abbrev pub invariant-records : goal.invariant-records
-invariant-records l = l.list.items ≡ kept_among l.types l.with_opt l.params.hints (take l.record-index l.records)

@@ -1,8 +1,0 @@
-use Rattle.std.proofs.Common.{rules}
-use Rattle.cd_hints.proofs.SignatureFields.{signature_by_fields}
-use Rattle.cd_hints.proofs.signature.kept_signature.Goals as goal
-
-pub returns : goal.returns
-returns c =
-    signature_by_fields _ _ (search rules) (search rules) (search rules) (search rules) (search rules) (search rules) (search rules) (search rules)
-    (search rules) (search rules) (search rules) (search rules) (search rules) (search rules) (search rules) (search rules)
