@@ -76,7 +76,7 @@ fn drain<V: Visit>(feeder: &mut Feeder, visitor: &mut V) -> Result<(), AllocErro
     Ok(())
 }
 
-/// Feeds a capture in chunks of so many bytes, and hands on the packets after each. A size of 0 is that of the whole capture.
+/// Feeds a capture in chunks of so many bytes, or whole where that is 0, and hands on the packets after each.
 pub fn walk<V: Visit>(
     alloc: Global,
     bytes: &[u8],

@@ -52,7 +52,7 @@ fn digit_of(byte: u8) -> Option<u8> {
     }
 }
 
-/// The bytes of a line in hexadecimal, whose spaces and whose end from a `#` on say nothing. None where it is no hexadecimal.
+/// The bytes that a line says in hexadecimal. Spaces say nothing, nor does what follows a `#`. None for any other line.
 pub fn bytes_of_hex(alloc: Global, line: &[u8]) -> Result<Option<Vec<u8>>, AllocError> {
     let mut bytes = Vec::new(alloc);
     let mut high: Option<u8> = None;

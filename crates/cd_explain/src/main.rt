@@ -9,19 +9,20 @@
 //! - `pairs`: each event with its partner.
 //! - `records`: the records of a capture and the blocks that are kept of them (RFC 8618 7.3.2).
 //! - `words`: the words after it as a command line, or without such words each line of the input as one.
-//! - `name N..`: the names at offsets of a message; `prefix N..`: so many bits of an address; `checksum N..`: the Internet
-//!   checksum of the bytes, given in two pieces of which the first has so many; `numbers N..`: the numbers at offsets.
+//! - `name N..`: the names at offsets of a message; `numbers N..`: the numbers at offsets.
+//! - `prefix N..`: so many bits of an address.
+//! - `checksum N..`: the Internet checksum of the bytes, given in two pieces of which the first has so many.
 //!
-//! After the layer may stand `--hex`, where each line of the input is one input in hexadecimal, and then `--chunk N`, where a
-//! capture is fed in chunks of so many bytes, and then `--ipv6 PREFIX`, where the addresses of events are embedded in a prefix of
-//! IPv6 of 96 bits. Layers of a capture take the options of `compact` after these.
+//! Words may stand after the layer, in this order: `--hex`, where each line of the input is one input in hexadecimal;
+//! `--chunk N`, where a capture is fed in chunks of so many bytes; `--ipv6 PREFIX`, where the addresses of events are
+//! embedded in a prefix of IPv6 of 96 bits (RFC 6052 2.2). Layers of a capture take the options of `compact` last.
 //!
 //! ```text
 //! $ printf '1a2b01000001000000000000 0161 00 0001 0001' | cd_explain message --hex
 //! ```
 //!
-//! The exit status is 0; 1 for words that are not these, 2 for a line that is not hexadecimal, 4 and 5 for a read or a write
-//! that fails, 6 for want of memory, and 10 for a word that is no UTF-8 text.
+//! The exit status is 0; 1 for words that are not these, 2 for a line that is not hexadecimal, 4 and 5 for a read or a
+//! write that fails, 6 for want of memory, and 10 for a word that is no UTF-8 text.
 #![tactic(auto)]
 
 mod asked;
@@ -50,7 +51,7 @@ use std::process::ExitCode;
 
 const USAGE: &[u8] = b"usage: cd_explain LAYER [--hex] [--chunk N] [--ipv6 PREFIX] [WORDS]
 layers: message, packets, layers, events, pairs, records, words, name, prefix, checksum, numbers
-WORDS: options of compact for a capture; numbers for name, prefix, checksum and numbers; a type for the answers of message.
+WORDS: options of compact for a capture; numbers for name, prefix, checksum, numbers; a type of answers for message.
 ";
 
 /// Why nothing is explained.

@@ -130,8 +130,8 @@ fn with_answer_type(message: Message, rtype: u16) -> Message {
     }
 }
 
-/// What a payload is as a message: its fields, or the first rule that it breaks; and how the message is written, with another type for
-/// its answers where one is given.
+/// What a payload is as a message: its fields, or the first rule that it breaks; and how the message is written, with
+/// another type for its answers where one is given.
 pub fn explain_message(
     alloc: Global,
     text: &mut String,

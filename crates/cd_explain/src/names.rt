@@ -8,8 +8,8 @@ use cd_packet::Addr;
 use std::alloc::{AllocError, Global};
 use std::fmt::Write;
 
-// A byte of a label (RFC 1035 5.1): a letter, digit or mark as itself, a dot or backslash after a backslash, any other as three
-// digits after a backslash.
+// A byte of a label (RFC 1035 5.1): a letter, digit or mark as itself, a dot or backslash after a backslash, another
+// byte as three digits after a backslash.
 fn put_label_byte(text: &mut String, byte: u8) -> Result<(), AllocError> {
     match byte {
         b'.' => text.push_str("\\."),
@@ -106,7 +106,7 @@ fn address_of(octets: &[u8]) -> Option<Addr> {
     }
 }
 
-/// What is stored of an address of which so many bits are kept. False where the bytes are no address, or have fewer bits.
+/// What is stored of an address of which so many bits are kept. False where the bytes are no address of so many bits.
 pub fn explain_prefix(text: &mut String, octets: &[u8], bits: usize) -> Result<bool, AllocError> {
     let (Some(addr), Ok(kept)) = (address_of(octets), u8::try_from(bits)) else {
         return Ok(false);
@@ -121,7 +121,7 @@ pub fn explain_prefix(text: &mut String, octets: &[u8], bits: usize) -> Result<b
     Ok(true)
 }
 
-/// The Internet checksum of bytes that are given in two pieces. False where the first is not there or has an odd length.
+/// The Internet checksum of bytes in two pieces. False where the first is not there or has an odd length.
 pub fn explain_checksum(text: &mut String, bytes: &[u8], first: usize) -> Result<bool, AllocError> {
     if first > bytes.len() || first % 2 != 0 {
         return Ok(false);

@@ -64,8 +64,8 @@ fn put_run(
     put_block(text, &block)
 }
 
-/// The records of events with their partners, what is dropped of each, what waits for the end of a block with it, and each block
-/// where it ends.
+/// The records of events with their partners, what is dropped of each, what waits with it for the end of a block, and
+/// each block where it ends.
 pub fn put_runs(
     alloc: Global,
     text: &mut String,
