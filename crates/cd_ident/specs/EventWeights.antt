@@ -25,7 +25,7 @@ abbrev pub EventWeightsAreLinear : Type 0
 EventWeightsAreLinear = (rules : EventRules) (d : Datagram) →
     16 * (event_parts rules d).weight ≤ 829 * (length d.payload + 5)
 
--- and so do the events of some datagrams, all together
+-- the events of some datagrams weigh together at most 829 sixteenths of their payloads and five bytes more for each
 abbrev pub SumsOfWeightsAreLinear : Type 0
 SumsOfWeightsAreLinear = (rules : EventRules) (ds : List Datagram) →
     16 * sum_by (λ d. (event_parts rules d).weight) ds ≤ 829 * sum_by (λ d. length d.payload + 5) ds

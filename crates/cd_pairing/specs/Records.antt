@@ -34,6 +34,7 @@ pub record StayReleased (windows : Windows) (events more : List EventView) (p q 
   pub released : BeginsWith (released_records windows events p) (released_records windows (events ++ more) q)
   pub all : BeginsWith (released_records windows events p) (records q)
 
+-- what is released stays so as more events come, where no event is lighter than the least weight
 abbrev pub ReleasedStay : Type 0
 ReleasedStay = (windows : Windows) (events more : List EventView) (p q : List (Option ℕ)) → AreHeavy (events ++ more) →
     IsPairing windows events p → IsPairing windows (events ++ more) q → StayReleased windows events more p q

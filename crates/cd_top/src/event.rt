@@ -7,7 +7,7 @@ ghost use Rattle.cd_packet.specs.Layers.{found_in};
 ghost use Rattle.cd_top.specs.Events.{is_header_alone, event_found, event_of};
 
 use cd_bytes::be16;
-use cd_ident::{Event, EventRules};
+use cd_ident::{Event, EventRules, opcode_of};
 use cd_packet::{Dgram, Layer, Packet, is_ethernet_ipv4, layers};
 use std::alloc::{AllocError, Global};
 
@@ -25,7 +25,7 @@ fn is_header_alone(payload: &[u8]) -> bool
     ensures { result ≡ is_header_alone payload.now }
 {
     payload.len() == HEADER_SIZE
-        && be16(payload, 2) / 0x800 % 16 == 0
+        && opcode_of(be16(payload, 2)) == 0
         && be16(payload, 4) == 0
         && be16(payload, 6) == 0
         && be16(payload, 8) == 0

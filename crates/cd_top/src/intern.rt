@@ -8,6 +8,7 @@ ghost use Rattle.cd_top.specs.Tables.{index_in, same_address, same_sig};
 
 use crate::block::{BlockItem, BlockSig, Delay};
 use crate::exchange::{Exchange, Half};
+use cd_ident::opcode_of;
 use cd_name::List;
 use std::alloc::{AllocError, Global};
 
@@ -154,7 +155,7 @@ impl Sig {
             server_port: lead.server_port,
             transport_flags: 0,
             sig_flags: query_flags + response_flags,
-            opcode: (lead.bits / 0x800 % 16) as u8,
+            opcode: opcode_of(lead.bits),
             dns_flags,
             query_rcode: rcode_of(&exchange.query),
             qd: 0,
