@@ -6,30 +6,30 @@ use Rattle.std.proofs.lemmas.List.Sums.{sum_by-append}
 use Rattle.cd_hints.specs.Records.{RecordParts, is_item, is_malformed}
 use Rattle.cd_record.specs.Runs.{Limits, IsAdmissible, record_weight, run_weight}
 
--- of two fronts of one list, one goes on where the other ends, before what is left behind that
-pub record GoesOn {X : Type 0} (short long behind_short behind_long : List X) : Type 0 where
+-- of two fronts of one list, one goes on where the other ends, before what is left after that
+pub record GoesOn {X : Type 0} (short long after_short after_long : List X) : Type 0 where
   pub first : X
   pub rest : List X
   pub longer : long ≡ short ++ first ∷ rest
-  pub behind : behind_short ≡ first ∷ (rest ++ behind_long)
+  pub after : after_short ≡ first ∷ (rest ++ after_long)
 
 -- two fronts of one list are one front, or one of them goes on where the other ends
-pub data FrontsOfOne {X : Type 0} (xs ys behind_xs behind_ys : List X) : Type 0 where
-  same : xs ≡ ys → behind_xs ≡ behind_ys → FrontsOfOne xs ys behind_xs behind_ys
-  first_shorter : GoesOn xs ys behind_xs behind_ys → FrontsOfOne xs ys behind_xs behind_ys
-  second_shorter : GoesOn ys xs behind_ys behind_xs → FrontsOfOne xs ys behind_xs behind_ys
+pub data FrontsOfOne {X : Type 0} (xs ys after_xs after_ys : List X) : Type 0 where
+  same : xs ≡ ys → after_xs ≡ after_ys → FrontsOfOne xs ys after_xs after_ys
+  first_shorter : GoesOn xs ys after_xs after_ys → FrontsOfOne xs ys after_xs after_ys
+  second_shorter : GoesOn ys xs after_ys after_xs → FrontsOfOne xs ys after_xs after_ys
 
-pub fronts_of_one : {X : Type 0} (xs ys behind_xs behind_ys : List X) → xs ++ behind_xs ≡ ys ++ behind_ys → FrontsOfOne xs ys behind_xs behind_ys
-fronts_of_one [] [] behind_xs behind_ys whole = same refl whole
-fronts_of_one [] (y ∷ ys) behind_xs behind_ys whole = first_shorter (record { first = y; rest = ys; longer = refl; behind = whole })
-fronts_of_one (x ∷ xs) [] behind_xs behind_ys whole = second_shorter (record { first = x; rest = xs; longer = refl; behind = sym whole })
-fronts_of_one {X} (x ∷ xs) (y ∷ ys) behind_xs behind_ys whole =
+pub fronts_of_one : {X : Type 0} (xs ys after_xs after_ys : List X) → xs ++ after_xs ≡ ys ++ after_ys → FrontsOfOne xs ys after_xs after_ys
+fronts_of_one [] [] after_xs after_ys whole = same refl whole
+fronts_of_one [] (y ∷ ys) after_xs after_ys whole = first_shorter (record { first = y; rest = ys; longer = refl; after = whole })
+fronts_of_one (x ∷ xs) [] after_xs after_ys whole = second_shorter (record { first = x; rest = xs; longer = refl; after = sym whole })
+fronts_of_one {X} (x ∷ xs) (y ∷ ys) after_xs after_ys whole =
     let head : x ≡ y = cc in
-    let tail : xs ++ behind_xs ≡ ys ++ behind_ys = cc in
-    elim (fronts_of_one xs ys behind_xs behind_ys tail) [
-      | same equal behind ↦ same (cc) behind
-      | first_shorter on ↦ let longer = on.longer in first_shorter (record { first = on.first; rest = on.rest; longer = cc; behind = on.behind })
-      | second_shorter on ↦ let longer = on.longer in second_shorter (record { first = on.first; rest = on.rest; longer = cc; behind = on.behind })
+    let tail : xs ++ after_xs ≡ ys ++ after_ys = cc in
+    elim (fronts_of_one xs ys after_xs after_ys tail) [
+      | same equal after ↦ same (cc) after
+      | first_shorter on ↦ let longer = on.longer in first_shorter (record { first = on.first; rest = on.rest; longer = cc; after = on.after })
+      | second_shorter on ↦ let longer = on.longer in second_shorter (record { first = on.first; rest = on.rest; longer = cc; after = on.after })
     ]
 
 -- a front of records that may stand in one block may stand in one block

@@ -4,8 +4,8 @@ use Rattle.std.specs.List.{All}
 use Rattle.std.proofs.lemmas.List.{append-nil}
 use Rattle.std.proofs.lemmas.List.Elements.{All-head, All-tail}
 use Rattle.cd_hints.specs.Records.{RecordParts}
-use Rattle.cd_record.specs.Blocks.{counted_run}
-use Rattle.cd_record.specs.Cutting.{Present, StandsFor, as_runs}
+use Rattle.cd_record.specs.Blocks.{RunParts, counted_run}
+use Rattle.cd_record.specs.Cutting.{Present, StandsFor, as_runs, runs_in}
 use Rattle.cd_record.specs.Laws.{IsAdmissibleAlone, RunsAreOne}
 use Rattle.cd_record.specs.Runs.{Limits, IsAdmissible, AreRuns}
 use Rattle.cd_record.proofs.Fronts.{GoesOn, fronts_of_one, same, first_shorter, second_shorter, IsAdmissible_front, admissible_or_not}
@@ -16,9 +16,9 @@ use Rattle.cd_record.proofs.RunLists.{records_of}
 abbrev present_with : Limits → List RecordParts → Present
 present_with limits run = record { limits = limits; ticks = 0; run = run }
 
--- the runs of some records, with the present one behind the others
+-- the runs of some records, with the present one after the others
 record Cut (limits : Limits) (records : List RecordParts) : Type 0 where
-  runs : List (List RecordParts)
+  runs : List RunParts
   run : List RecordParts
   stands : StandsFor (present_with limits run) records runs
 
@@ -33,7 +33,7 @@ cut_more limits records r alone before =
         stands = StandsFor_joined old (present_with limits (before.run ++ r ∷ [])) r records before.runs (record { admissible = fits; present = refl }) before.stands;
       }
       | inr full ↦ record {
-        runs = before.runs ++ before.run ∷ [];
+        runs = before.runs ++ counted_run 0 before.run ∷ [];
         run = r ∷ [];
         stands = StandsFor_cut old (present_with limits (r ∷ [])) r (counted_run 0 before.run) records before.runs alone
             (record { not_admissible = full; given_run = refl; present = refl }) before.stands;
@@ -48,7 +48,7 @@ cut_rest limits (r ∷ rest) records alone before =
     subst (λ (all : List RecordParts). Cut limits all) (append_assoc records (r ∷ []) rest)
     (cut_rest limits rest (records ++ r ∷ []) (All-tail (IsAdmissibleAlone limits) r rest alone) more)
 
--- runs behind the first are those of the records behind it
+-- runs after the first are those of the records after it
 AreRuns_rest : (limits : Limits) (records run : List RecordParts) (runs : List (List RecordParts)) → AreRuns limits records (run ∷ runs) → AreRuns limits (records_of runs) runs
 AreRuns_rest limits records run [] all = record {
   whole = refl;
@@ -68,14 +68,14 @@ some_records : (limits : Limits) (run : List RecordParts) (runs : List (List Rec
 some_records limits [] runs all = All-head (λ (one : List RecordParts). one ≢ []) [] runs all.not_empty refl
 some_records limits (r ∷ run) runs all = (let e = all.whole in cc)
 
--- the first record behind a run that is followed by others could not stand in one block with it
-not_longer : (limits : Limits) (records run longer : List RecordParts) (runs : List (List RecordParts)) (behind : List RecordParts) → AreRuns limits records (run ∷ runs) →
-    GoesOn run longer (records_of runs) behind → ¬ (IsAdmissible limits longer)
-not_longer limits records run longer [] behind all on fits = (let e = on.behind in cc)
-not_longer limits records run longer ([] ∷ runs) behind all on fits =
+-- the first record after a run that is followed by others could not stand in one block with it
+not_longer : (limits : Limits) (records run longer : List RecordParts) (runs : List (List RecordParts)) (after : List RecordParts) → AreRuns limits records (run ∷ runs) →
+    GoesOn run longer (records_of runs) after → ¬ (IsAdmissible limits longer)
+not_longer limits records run longer [] after all on fits = (let e = on.after in cc)
+not_longer limits records run longer ([] ∷ runs) after all on fits =
     All-head (λ (one : List RecordParts). one ≢ []) [] runs (All-tail (λ (one : List RecordParts). one ≢ []) run ([] ∷ runs) all.not_empty) refl
-not_longer limits records run longer ((r ∷ next) ∷ runs) behind all on fits =
-    let first : r ≡ on.first = (let e = on.behind in cc) in
+not_longer limits records run longer ((r ∷ next) ∷ runs) after all on fits =
+    let first : r ≡ on.first = (let e = on.after in cc) in
     let split : longer ≡ (run ++ r ∷ []) ++ on.rest = on.longer ∙ rw first (sym (append_assoc run (on.first ∷ []) on.rest)) in
     all.long.0 (IsAdmissible_front limits (run ++ r ∷ []) on.rest (subst (IsAdmissible limits) split fits))
 
@@ -86,8 +86,8 @@ one_cut limits records [] (other ∷ others) all also = absurd (some_records lim
 one_cut limits records (run ∷ runs) [] all also = absurd (some_records limits run runs (subst (λ (rs : List RecordParts). AreRuns limits rs (run ∷ runs)) also.whole all))
 one_cut limits records (run ∷ runs) (other ∷ others) all also =
     elim (fronts_of_one run other (records_of runs) (records_of others) (sym all.whole ∙ also.whole)) [
-      | same equal behind ↦
-          let rest : AreRuns limits (records_of runs) others = subst (λ (rs : List RecordParts). AreRuns limits rs others) (sym behind) (AreRuns_rest limits records other others also) in
+      | same equal after ↦
+          let rest : AreRuns limits (records_of runs) others = subst (λ (rs : List RecordParts). AreRuns limits rs others) (sym after) (AreRuns_rest limits records other others also) in
           let same_rest : runs ≡ others = one_cut limits (records_of runs) runs others (AreRuns_rest limits records run runs all) rest in
           cc
       | first_shorter on ↦ absurd (not_longer limits records run other runs (records_of others) all on (All-head (IsAdmissible limits) other others also.admissible))
@@ -99,7 +99,7 @@ pub cut_in_one_way : RunsAreOne
 cut_in_one_way limits records alone =
     let cut : Cut limits records = cut_rest limits records [] alone (record { runs = []; run = []; stands = StandsFor_fresh (present_with limits []) refl }) in
     record {
-      runs = cut.runs ++ as_runs cut.run;
+      runs = runs_in cut.runs ++ as_runs cut.run;
       holds = cut.stands.runs;
-      only = λ other holds. one_cut limits records other (cut.runs ++ as_runs cut.run) holds cut.stands.runs;
+      only = λ other holds. one_cut limits records other (runs_in cut.runs ++ as_runs cut.run) holds cut.stands.runs;
     }

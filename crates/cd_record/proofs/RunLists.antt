@@ -16,7 +16,7 @@ pub All_front : {X : Type 0} (P : X → Type 0) (xs ys : List X) → All P (xs +
 All_front P [] ys each = All-nil P
 All_front P (x ∷ xs) ys each = All-cons P x xs (All-head P x (xs ++ ys) each) (All_front P xs ys (All-tail P x (xs ++ ys) each))
 
--- the last run stands behind the records of the others
+-- the last run stands after the records of the others
 pub records_of_last : (runs : List (List RecordParts)) (run : List RecordParts) → records_of (runs ++ run ∷ []) ≡ records_of runs ++ run
 records_of_last runs run = flat_map-append (λ r. r) runs (run ∷ []) ∙ ap (λ (back : List RecordParts). records_of runs ++ back) (append-nil run)
 
@@ -25,7 +25,7 @@ pub filled_push : {X : Type 0} (xs : List X) (x : X) → xs ++ x ∷ [] ≢ []
 filled_push [] x e = cc
 filled_push (first ∷ xs) x e = cc
 
--- whatever comes behind it, a run that is not empty keeps its first record
+-- whatever comes after it, a run that is not empty keeps its first record
 take_first : (run more : List RecordParts) → run ≢ [] → take 1 run ≡ take 1 (run ++ more)
 take_first [] more filled = absurd (filled refl)
 take_first (r ∷ run) more filled = refl

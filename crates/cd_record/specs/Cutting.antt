@@ -1,7 +1,8 @@
 -- How a list of records is cut, record by record.
-use Rattle.std.specs.Prelude.{◌≡◌, ℕ, List, [], ◌∷◌, ◌++◌, Option, Some, None}
+use Rattle.std.specs.Prelude.{◌≡◌, ℕ, List, [], ◌∷◌, ◌++◌, map, Option, Some, None}
+use Rattle.std.specs.List.{All}
 use Rattle.cd_hints.specs.Records.{RecordParts}
-use Rattle.cd_record.specs.Blocks.{RunParts, run_parts, counted_run}
+use Rattle.cd_record.specs.Blocks.{RunParts, run_parts, counted_run, IsCounted}
 use Rattle.cd_record.specs.Runs.{Limits, IsAdmissible, AreRuns}
 use Rattle.cd_record.specs.declared.block_records.BlockRecords.{BlockRecords}
 
@@ -16,10 +17,19 @@ abbrev pub as_runs : List RecordParts → List (List RecordParts)
 as_runs [] = []
 as_runs (r ∷ run) = (r ∷ run) ∷ []
 
--- the run that an answer gives, as a list of runs
-abbrev pub given_runs : Option BlockRecords → List (List RecordParts)
+-- the run that an answer gives, as a list of runs, each with its statistics and its earliest time
+abbrev pub given_runs : Option BlockRecords → List RunParts
 given_runs None = []
-given_runs (Some b) = (run_parts b).records ∷ []
+given_runs (Some b) = run_parts b ∷ []
+
+-- the records of each run
+abbrev pub runs_in : List RunParts → List (List RecordParts)
+runs_in given = map (λ run. run.records) given
+
+-- these are the runs of some records, each with its own statistics and its own earliest time
+pub record AreCountedRuns (limits : Limits) (ticks : ℕ) (records : List RecordParts) (given : List RunParts) : Type 0 where
+  pub runs : AreRuns limits records (runs_in given)
+  pub counted : All (IsCounted ticks) given
 
 -- the present run with one more record
 abbrev pub with_record : Present → RecordParts → List RecordParts
@@ -41,8 +51,9 @@ abbrev pub Pushes : Present → RecordParts → Option BlockRecords → Present 
 Pushes old r None new = Joins old r new
 Pushes old r (Some b) new = Cuts old r (run_parts b) new
 
--- Of the records pushed since the cutter was new or had finished, these runs were given: with the present run they are the runs of
--- those records. The present run is empty only before the first record.
-pub record StandsFor (present : Present) (pushed : List RecordParts) (given : List (List RecordParts)) : Type 0 where
-  pub runs : AreRuns present.limits pushed (given ++ as_runs present.run)
+-- Of the records pushed since the cutter was new or had finished, these runs were given: each with its own statistics and its own
+-- earliest time, and with the present run they are the runs of those records. The present run is empty only before the first record.
+pub record StandsFor (present : Present) (pushed : List RecordParts) (given : List RunParts) : Type 0 where
+  pub runs : AreRuns present.limits pushed (runs_in given ++ as_runs present.run)
+  pub counted : All (IsCounted present.ticks) given
   pub fresh : present.run ≡ [] → given ≡ []

@@ -3,7 +3,7 @@ use Rattle.std.specs.Prelude.{◌≡◌, ℕ, ◌+◌, ◌<◌, ◌≤◌, ◌^�
 use Rattle.cd_block.specs.declared.stats.Stats.{Stats}
 use Rattle.cd_hints.specs.Records.{RecordParts, pair, unmatched_query, unmatched_response, malformed, discarded}
 use Rattle.cd_hints.specs.Options.{Admits}
-use Rattle.cd_hints.specs.declared.options.NumberOption.TheVariants.{Ticks, BlockItems, BlockBytes}
+use Rattle.cd_hints.specs.declared.settings.options.NumberOption.TheVariants.{Ticks, BlockItems, BlockBytes}
 use Rattle.cd_record.specs.Blocks.{HaveKinds}
 use Rattle.cd_record.specs.Earliest.{record_tick, earliest_tick}
 use Rattle.cd_record.specs.Runs.{Limits, IsAdmissible, record_weight, run_weight}

@@ -14,7 +14,7 @@ use cd_hints::{Rec, Settings, kept_item, kept_malformed};
 use cd_name::List;
 use std::alloc::{AllocError, Global};
 
-/// The items of the pairs, queries and responses, in a block with this earliest time.
+// The items of the pairs, queries and responses, in a block with this earliest time.
 fn items_of(
     alloc: Global,
     settings: &Settings,
@@ -39,7 +39,7 @@ fn items_of(
     Ok(List::from_vec(items))
 }
 
-/// The malformed records, in a block with this earliest time. None is kept where their hint is not set.
+// The malformed records, in a block with this earliest time. None is kept where their hint is not set.
 fn malformed_of(
     alloc: Global,
     settings: &Settings,

@@ -3,8 +3,8 @@
 ghost use Rattle.std.specs.Prelude.{◌≡◌, ◌↔◌, List, [], ◌∷◌, ◌++◌, length, IfOk, IfErr, OnErr, IfSome, IsNone};
 ghost use Rattle.cd_hints.specs.Records.{RecordParts, record_parts, HasKinds};
 ghost use Rattle.cd_hints.specs.Validity.{IsValid};
-ghost use Rattle.cd_record.specs.Blocks.{run_parts, counted_run, HaveKinds};
-ghost use Rattle.cd_record.specs.Runs.{limits_of, run_weight, IsAdmissible, AreRuns};
+ghost use Rattle.cd_record.specs.Blocks.{RunParts, run_parts, counted_run, HaveKinds};
+ghost use Rattle.cd_record.specs.Runs.{limits_of, run_weight, IsAdmissible};
 
 use crate::block_records::BlockRecords;
 use crate::run::Run;
@@ -44,7 +44,7 @@ impl Model for Cutter {
 }
 
 impl Cutter {
-    ghost use Rattle.cd_record.specs.Cutting.{StandsFor, Pushes, given_runs};
+    ghost use Rattle.cd_record.specs.Cutting.{StandsFor, Pushes, AreCountedRuns, given_runs};
 
     /// A cutter with no record. The settings must be valid; of them it keeps the limits of a block and the ticks of a second.
     pub fn new(alloc: Global, settings: &Settings) -> Cutter
@@ -73,7 +73,7 @@ impl Cutter {
         ensures kinds { IfOk result (λ given. IfSome given (λ b. HaveKinds (run_parts b).records)) }
         ensures unchanged { OnErr result (self.new ≡ self.old) }
         ensures handed_back { IfErr result (λ fault. fault ≡ CutFault.NoMemory rec) }
-        ensures history { IfOk result (λ given. (pushed : List RecordParts) (runs : List (List RecordParts)) →
+        ensures history { IfOk result (λ given. (pushed : List RecordParts) (runs : List RunParts) →
             StandsFor self.old pushed runs → StandsFor self.new (pushed ++ record_parts rec ∷ []) (runs ++ given_runs given)) }
     {
         let tally = self.run.tally.with(self.ticks, &rec);
@@ -98,8 +98,8 @@ impl Cutter {
         ensures given { IfSome result (λ b. run_parts b ≡ counted_run self.old.ticks self.old.run) }
         ensures kinds { IfSome result (λ b. HaveKinds (run_parts b).records) }
         ensures empty { self.new ≡ record self.old { run = [] } }
-        ensures whole { (pushed : List RecordParts) (runs : List (List RecordParts)) →
-            StandsFor self.old pushed runs → AreRuns self.old.limits pushed (runs ++ given_runs result) }
+        ensures whole { (pushed : List RecordParts) (runs : List RunParts) → StandsFor self.old pushed runs →
+            AreCountedRuns self.old.limits self.old.ticks pushed (runs ++ given_runs result) }
         ensures history { StandsFor self.new [] [] }
     {
         if self.run.recs.is_empty() {

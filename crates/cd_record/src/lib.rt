@@ -11,7 +11,7 @@
 mod block_making;
 mod block_records;
 mod cutter;
-mod law;
+pub mod laws;
 mod run;
 mod tally;
 #[cfg(test)]
@@ -20,4 +20,3 @@ mod tests;
 pub use block_making::kept_block;
 pub use block_records::BlockRecords;
 pub use cutter::{CutFault, Cutter};
-pub use law::{one_record_is_admissible, runs_are_one};

@@ -5,7 +5,7 @@ ghost use Rattle.std.specs.Option.{option_map};
 ghost use Rattle.cd_hints.specs.Records.{record_parts};
 ghost use Rattle.cd_record.specs.Blocks.{run_parts};
 ghost use Rattle.cd_hints.specs.Options.{Admits};
-ghost use Rattle.cd_hints.specs.declared.options.NumberOption.TheVariants.{Ticks};
+ghost use Rattle.cd_hints.specs.declared.settings.options.NumberOption.TheVariants.{Ticks};
 ghost use Rattle.cd_record.specs.Earliest;
 ghost use Rattle.cd_record.specs.Runs.{record_weight};
 ghost use Rattle.cd_record.specs.Tallies.{tally_of};
@@ -17,14 +17,14 @@ use cd_hints::Rec;
 use cd_name::List;
 use std::alloc::Global;
 
-/// The records of one block, with their tally.
+// The records of one block, with their tally.
 #[derive(Debug, Drop)]
 pub(crate) struct Run {
     pub(crate) recs: Vec<Rec>,
     pub(crate) tally: Tally,
 }
 
-/// A tick as seconds and ticks within the second, of which a second has so many.
+// A tick as seconds and ticks within the second, of which a second has so many.
 fn stamp_of(ticks: u64, tick: u64) -> Stamp
     requires { 0 < ticks }
     ensures { result ≡ Earliest.stamp_of ticks tick }
@@ -36,7 +36,7 @@ fn stamp_of(ticks: u64, tick: u64) -> Stamp
 }
 
 impl Run {
-    /// A run with no record.
+    // A run with no record.
     pub(crate) fn new(alloc: Global) -> Run
         ensures recs { result.recs.items ≡ [] }
         ensures tally { (ticks : ℕ) → result.tally ≡ tally_of ticks [] }
@@ -47,7 +47,7 @@ impl Run {
         }
     }
 
-    /// Takes one more record, with which the run has this tally. For want of memory it hands the record back and changes nothing.
+    // Takes one more record, with which the run has this tally. For want of memory it hands the record back and changes nothing.
     pub(crate) fn add(&mut self, rec: Rec, tally: Tally) -> Result<(), Rec>
         ensures ok { OnOk result ((self.new.recs.items ≡ self.old.recs.items ++ rec ∷ []) × (self.new.tally ≡ tally)) }
         ensures err { OnErr result ((self.new.recs.items ≡ self.old.recs.items) × (self.new.tally ≡ self.old.tally)) }
@@ -62,7 +62,7 @@ impl Run {
         }
     }
 
-    /// A run with one record. For want of memory it hands the record back. A second has so many ticks.
+    // A run with one record. For want of memory it hands the record back. A second has so many ticks.
     pub(crate) fn of(alloc: Global, ticks: u64, rec: Rec) -> Result<Run, Rec>
         requires ticks { Admits Ticks ticks }
         requires light { record_weight (record_parts rec) < 2 ^ 64 }
@@ -78,7 +78,7 @@ impl Run {
         }
     }
 
-    /// The records of the block, of which a second has so many ticks.
+    // The records of the block, of which a second has so many ticks.
     pub(crate) fn into_block(self, ticks: u64) -> BlockRecords
         requires { 0 < ticks }
         ensures { run_parts result ≡

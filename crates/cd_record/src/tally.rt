@@ -3,7 +3,7 @@
 ghost use Rattle.std.specs.Prelude.{◌≡◌, ℕ, ◌<◌, ◌^◌, ◌↔◌, [], IsTrue};
 ghost use Rattle.cd_hints.specs.Options.{Admits};
 ghost use Rattle.cd_hints.specs.Records.{record_parts};
-ghost use Rattle.cd_hints.specs.declared.options.NumberOption.TheVariants.{Ticks};
+ghost use Rattle.cd_hints.specs.declared.settings.options.NumberOption.TheVariants.{Ticks};
 ghost use Rattle.cd_record.specs.Earliest;
 ghost use Rattle.cd_record.specs.Runs.{record_weight};
 ghost use Rattle.cd_record.specs.Tallies;
@@ -11,16 +11,16 @@ ghost use Rattle.cd_record.specs.Tallies;
 use cd_block::Stats;
 use cd_hints::{Rec, tick_of};
 
-/// What some records count, weigh, and their least tick.
+// What some records count, weigh, and their least tick.
 #[derive(Clone, Copy, Debug)]
 pub(crate) struct Tally {
     pub(crate) stats: Stats,
     pub(crate) weight: u64,
-    /// None where no record has a time.
+    // None where no record has a time.
     pub(crate) earliest: Option<u64>,
 }
 
-/// The statistics with one more record.
+// The statistics with one more record.
 fn stats_with(stats: Stats, rec: &Rec) -> Stats
     requires { Tallies.HaveRoom stats }
     ensures { result ≡ Tallies.stats_with stats (record_parts rec.now) }
@@ -55,7 +55,7 @@ fn stats_with(stats: Stats, rec: &Rec) -> Stats
     }
 }
 
-/// The weight of a record: that of its events.
+// The weight of a record: that of its events.
 fn weight_of(rec: &Rec) -> u64
     requires { record_weight (record_parts rec.now) < 2 ^ 64 }
     ensures { result ≡ record_weight (record_parts rec.now) }
@@ -67,7 +67,7 @@ fn weight_of(rec: &Rec) -> u64
     }
 }
 
-/// The time of a record: a pair has that of its query, and what is discarded has none.
+// The time of a record: a pair has that of its query, and what is discarded has none.
 fn time_of(rec: &Rec) -> Option<u64>
     ensures { result ≡ Earliest.time_of (record_parts rec.now) }
 {
@@ -78,7 +78,7 @@ fn time_of(rec: &Rec) -> Option<u64>
     }
 }
 
-/// The tick of a record's time.
+// The tick of a record's time.
 fn record_tick(ticks: u64, rec: &Rec) -> Option<u64>
     requires { Admits Ticks ticks }
     ensures { result ≡ Earliest.record_tick ticks (record_parts rec.now) }
@@ -86,7 +86,7 @@ fn record_tick(ticks: u64, rec: &Rec) -> Option<u64>
     time_of(rec).map(|time| tick_of(ticks, time))
 }
 
-/// The lesser of two ticks, where both are there.
+// The lesser of two ticks, where both are there.
 fn earlier(one: Option<u64>, other: Option<u64>) -> Option<u64>
     ensures { result ≡ Tallies.earlier one other }
 {
@@ -98,7 +98,7 @@ fn earlier(one: Option<u64>, other: Option<u64>) -> Option<u64>
 }
 
 impl Tally {
-    /// The tally of no record.
+    // The tally of no record.
     pub(crate) fn none() -> Tally
         ensures { (ticks : ℕ) → result ≡ Tallies.tally_of ticks [] }
     {
@@ -116,7 +116,7 @@ impl Tally {
         }
     }
 
-    /// The tally with one more record. A second has so many ticks.
+    // The tally with one more record. A second has so many ticks.
     pub(crate) fn with(&self, ticks: u64, rec: &Rec) -> Tally
         requires ticks { Admits Ticks ticks }
         requires room { Tallies.HasRoom self.now (record_parts rec.now) }
@@ -129,7 +129,7 @@ impl Tally {
         }
     }
 
-    /// Whether records of this tally may stand in one block.
+    // Whether records of this tally may stand in one block.
     pub(crate) fn is_within(&self, max_items: u64, max_weight: u64) -> bool
         ensures { IsTrue result ↔ Tallies.IsWithin (record { items = max_items; weight = max_weight }) self.now }
     {
