@@ -12,7 +12,8 @@ use crate::events::Events;
 use crate::kept::put_block;
 use crate::records::record_at;
 use cd_hints::{Rec, Settings, dropped};
-use cd_record::{BlockRecords, Cutter, kept_block, one_record_is_admissible};
+use cd_record::laws::one_record_is_admissible;
+use cd_record::{BlockRecords, Cutter, kept_block};
 use std::alloc::{AllocError, Global};
 use std::fmt::Write;
 
