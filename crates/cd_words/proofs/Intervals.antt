@@ -3,7 +3,7 @@ use Rattle.std.proofs.Common.{◌≡◌, ℕ, ◌^◌, ◌<◌, ◌≤◌, Bool,
 use Rattle.std.specs.Option.{option_map, option_and_then}
 use Rattle.std.specs.List.{list_any, before_first, after_first}
 use Rattle.std.proofs.lemmas.Bool.Decides.{nat_tests}
-use Rattle.cd_hints.specs.declared.interval.Interval.{Interval}
+use Rattle.cd_hints.specs.declared.settings.interval.Interval.{Interval}
 use Rattle.cd_hints.specs.Options.{between}
 use Rattle.cd_words.specs.Numbers.{number_of}
 use Rattle.cd_words.specs.Parts.{is_dash, interval_of, is_within, part_of}

@@ -5,10 +5,10 @@ use Rattle.std.specs.Str.{bytes_eq}
 use Rattle.std.proofs.lemmas.Slice.Eq.{bytes_eq-Decides}
 use Rattle.cd_hints.specs.Options.{name_of, list_name_of}
 use Rattle.cd_words.specs.declared.compact_option.CompactOption.{CompactOption}
-use Rattle.cd_hints.specs.declared.options.NumberOption.{NumberOption}
-use Rattle.cd_hints.specs.declared.options.ListOption.{ListOption}
-use Rattle.cd_hints.specs.declared.options.NumberOption.TheVariants.{Workers, Ticks, QueryTimeout, SkewTimeout, Window, WindowBytes, BlockItems, BlockBytes, QrHints, SigHints, RrHints, OtherHints, ClientPrefix4, ClientPrefix6, ServerPrefix4, ServerPrefix6, Port, MaxInput}
-use Rattle.cd_hints.specs.declared.options.ListOption.TheVariants.{Opcodes, RrTypes}
+use Rattle.cd_hints.specs.declared.settings.options.NumberOption.{NumberOption}
+use Rattle.cd_hints.specs.declared.settings.options.ListOption.{ListOption}
+use Rattle.cd_hints.specs.declared.settings.options.NumberOption.TheVariants.{Workers, Ticks, QueryTimeout, SkewTimeout, Window, WindowBytes, BlockItems, BlockBytes, QrHints, SigHints, RrHints, OtherHints, ClientPrefix4, ClientPrefix6, ServerPrefix4, ServerPrefix6, Port, MaxInput}
+use Rattle.cd_hints.specs.declared.settings.options.ListOption.TheVariants.{Opcodes, RrTypes}
 use Rattle.cd_words.specs.declared.compact_option.CompactOption.TheVariants.{Number, Parts}
 use Rattle.cd_words.specs.Options.{all_options, word_of, option_named}
 use Rattle.cd_words.specs.Laws.{OptionsHaveNames}

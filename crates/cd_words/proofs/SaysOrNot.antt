@@ -3,9 +3,9 @@ use Rattle.std.proofs.Common.{◌≡◌, ◌≢◌, ℕ, ◌<◌, ◌≤◌, ◌
 use Rattle.std.specs.Int.{bit_at}
 use Rattle.std.proofs.lemmas.Bool.{false≢true}
 use Rattle.std.proofs.lemmas.Bool.Decides.{eqb_tells, leb_tells}
-use Rattle.cd_hints.specs.declared.interval.Interval.{Interval}
-use Rattle.cd_hints.specs.declared.options.NumberOption.{NumberOption}
-use Rattle.cd_hints.specs.declared.options.NumberOption.TheVariants.{Ticks, QrHints, SigHints}
+use Rattle.cd_hints.specs.declared.settings.interval.Interval.{Interval}
+use Rattle.cd_hints.specs.declared.settings.options.NumberOption.{NumberOption}
+use Rattle.cd_hints.specs.declared.settings.options.NumberOption.TheVariants.{Ticks, QrHints, SigHints}
 use Rattle.cd_hints.specs.Options.{Admits, IsAllowed, option_range, list_range}
 use Rattle.cd_words.specs.declared.compact_option.CompactOption.{CompactOption}
 use Rattle.cd_words.specs.declared.compact_option.CompactOption.TheVariants.{Number, Parts}

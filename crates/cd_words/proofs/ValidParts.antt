@@ -1,9 +1,9 @@
 -- Settings stay valid where an option has the union of some parts.
 use Rattle.std.proofs.Common.{List}
-use Rattle.cd_hints.specs.declared.interval.Interval.{Interval}
+use Rattle.cd_hints.specs.declared.settings.interval.Interval.{Interval}
 use Rattle.cd_hints.specs.declared.settings.Settings.{Settings}
-use Rattle.cd_hints.specs.declared.options.ListOption.{ListOption}
-use Rattle.cd_hints.specs.declared.options.ListOption.TheVariants.{Opcodes, RrTypes}
+use Rattle.cd_hints.specs.declared.settings.options.ListOption.{ListOption}
+use Rattle.cd_hints.specs.declared.settings.options.ListOption.TheVariants.{Opcodes, RrTypes}
 use Rattle.cd_hints.specs.Validity.{AreValidParams, IsValid}
 use Rattle.cd_words.specs.Compact.{with_parts}
 use Rattle.cd_hints.proofs.Listed.{listed_below_ascends}

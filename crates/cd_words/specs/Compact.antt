@@ -1,9 +1,9 @@
 -- The language of `compact`.
 use Rattle.std.specs.Prelude.{ℕ, List, [], unwrap_or, codes}
-use Rattle.cd_hints.specs.declared.interval.Interval.{Interval}
+use Rattle.cd_hints.specs.declared.settings.interval.Interval.{Interval}
 use Rattle.cd_hints.specs.declared.settings.Settings.{Settings}
-use Rattle.cd_hints.specs.declared.options.ListOption.{ListOption}
-use Rattle.cd_hints.specs.declared.options.ListOption.TheVariants.{Opcodes, RrTypes}
+use Rattle.cd_hints.specs.declared.settings.options.ListOption.{ListOption}
+use Rattle.cd_hints.specs.declared.settings.options.ListOption.TheVariants.{Opcodes, RrTypes}
 use Rattle.cd_hints.specs.Options.{list_range}
 use Rattle.cd_hints.specs.Listing.{listed_types, listed_opcodes}
 use Rattle.cd_hints.specs.Settings.{default_settings, with_params, with_number}

@@ -2,7 +2,7 @@
 use Rattle.std.specs.Prelude.{ℕ, Bool, ◌&&◌, nat_le, ◌==◌, List, [], ◌∷◌, Option, Some, None, if◌then◌else◌}
 use Rattle.std.specs.Option.{option_map, option_and_then}
 use Rattle.std.specs.List.{list_any, before_first, after_first, slice_split}
-use Rattle.cd_hints.specs.declared.interval.Interval.{Interval}
+use Rattle.cd_hints.specs.declared.settings.interval.Interval.{Interval}
 use Rattle.cd_hints.specs.Options.{between}
 use Rattle.cd_words.specs.Numbers.{number_of}
 

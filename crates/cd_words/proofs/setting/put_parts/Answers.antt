@@ -1,4 +1,4 @@
-use Rattle.cd_hints.specs.declared.options.ListOption.TheVariants.{RrTypes}
+use Rattle.cd_hints.specs.declared.settings.options.ListOption.TheVariants.{RrTypes}
 use Rattle.cd_words.specs.Compact.{with_parts}
 use Rattle.cd_words.proofs.ValidParts.{valid_parts}
 use Rattle.cd_words.proofs.setting.put_parts.Goals as goal
