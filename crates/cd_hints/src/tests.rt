@@ -1,17 +1,25 @@
-//! Each public call once. Values are cases elsewhere.
+//! Each public call of settings, prefixes and ticks once. Values are cases elsewhere, and cd_record calls what keeps records.
+
+ghost use Rattle.std.specs.Prelude.{IfOk};
+ghost use Rattle.cd_hints.specs.Validity.{IsValid};
 
 use crate::{
-    Interval, ListOption, NumberOption, Rec, Settings, default_settings, dropped, kept_item,
-    kept_malformed, opcodes_of, prefix, tick_of, types_of, valid,
+    Interval, ListOption, NumberOption, Settings, default_settings, opcodes_of, prefix, tick_of,
+    types_of, valid,
 };
-use cd_block::Stamp;
-use cd_ident::{Event, EventRules, Kind, event_of};
-use cd_packet::{Addr, Dgram};
+use cd_packet::Addr;
 use std::alloc::{AllocError, Global};
+
+// The defaults, of which it is known here that they are valid.
+fn valid_defaults(alloc: Global) -> Result<Settings, AllocError>
+    ensures { IfOk result IsValid }
+{
+    default_settings(alloc)
+}
 
 #[test]
 fn settings_are_made_and_changed(rt: HostRuntime) -> Result<(), AllocError> {
-    let mut settings: Settings = default_settings(rt.alloc())?;
+    let mut settings = valid_defaults(rt.alloc())?;
     settings.put(NumberOption::Port, 5353);
     assert_eq!(rt; settings.port, 5353);
     assert!(rt; valid(&settings));
@@ -51,56 +59,4 @@ fn a_prefix_and_a_tick(rt: HostRuntime) {
     let (octets, stored) = prefix(&ADDR, Some(1));
     assert_eq!(rt; (octets[0], stored), (128, 1));
     assert_eq!(rt; tick_of(1_000_000, 5_999), 5);
-}
-
-// A time before that of each event.
-const EARLIEST: Stamp = Stamp {
-    seconds: 0,
-    ticks: 0,
-};
-
-// The event of a payload of at most 65,535 bytes, 7 ticks after EARLIEST.
-fn event(alloc: Global, payload: &[u8]) -> Result<Event, AllocError> {
-    let dgram = Dgram {
-        time: 7_000,
-        src: ADDR,
-        dst: ADDR,
-        sport: 40000,
-        dport: 53,
-        hop: 64,
-        payload: &payload[..payload.len().min(65535)],
-    };
-    let rules = EventRules {
-        port: 53,
-        opcodes: 1,
-    };
-    event_of(alloc, &dgram, &rules)
-}
-
-#[test]
-fn a_query_is_an_item(rt: HostRuntime) -> Result<(), AllocError> {
-    let event = event(rt.alloc(), b"\x1a\x2b\0\0\0\0\0\0\0\0\0\0")?;
-    if event.kind != Kind::Query {
-        panic!(rt; "no query");
-    }
-    let rec = Rec::Query(event);
-    assert_eq!(rt; rec.main_event().hop, 64);
-    let settings = default_settings(rt.alloc())?;
-    assert_eq!(rt; dropped(&settings, &rec), 0);
-    let item = kept_item(rt.alloc(), &settings, &rec, EARLIEST)?;
-    assert_eq!(rt; item.transaction_id, Some(0x1a2b));
-    Ok(())
-}
-
-#[test]
-fn a_malformed_message_is_kept(rt: HostRuntime) -> Result<(), AllocError> {
-    let event = event(rt.alloc(), b"\x1a")?;
-    if event.kind != Kind::Malformed {
-        panic!(rt; "no malformed message");
-    }
-    let rec = Rec::Malformed(event);
-    let settings = default_settings(rt.alloc())?;
-    let item = kept_malformed(rt.alloc(), &settings, &rec, EARLIEST)?;
-    assert_eq!(rt; item.time_offset, Some(7));
-    Ok(())
 }
