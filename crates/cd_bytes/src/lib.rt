@@ -16,8 +16,6 @@ pub mod laws;
 mod number_reading;
 mod order;
 mod out;
-#[cfg(test)]
-mod tests;
 
 pub use cursor::{Cursor, Short};
 pub use internet_checksum::checksum;

@@ -12,8 +12,6 @@ pub mod laws;
 mod opt_reading;
 mod opt_record;
 mod opt_writing;
-#[cfg(test)]
-mod tests;
 
 pub use opt_reading::{full_rcode, opt_of, opt_ref};
 pub use opt_record::{Opt, OptRef};

@@ -18,8 +18,6 @@ mod keeping;
 pub mod laws;
 mod record;
 mod settings;
-#[cfg(test)]
-mod tests;
 
 pub use keeping::{dropped, kept_item, kept_malformed, prefix, tick_of};
 pub use record::Rec;

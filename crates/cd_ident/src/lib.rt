@@ -22,8 +22,6 @@ mod identifiers;
 pub mod laws;
 mod primary;
 mod secondary;
-#[cfg(test)]
-mod tests;
 
 pub use event::{Body, Event, Kind};
 pub use event_making::{GREATEST_WEIGHT, event_of};

@@ -24,8 +24,6 @@ mod rdata;
 mod rdata_writing;
 mod record;
 mod shape;
-#[cfg(test)]
-mod tests;
 mod weighing;
 mod writing;
 

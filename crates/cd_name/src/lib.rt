@@ -30,16 +30,10 @@ mod list;
 mod name;
 mod name_reader;
 mod name_reading;
-#[cfg(test)]
-mod name_tests;
 mod name_walk;
 mod name_writer;
-#[cfg(test)]
-mod name_writer_tests;
 mod piece;
 mod shared_suffix;
-#[cfg(test)]
-mod tests;
 
 pub use blob::Blob;
 pub use fault::{NameFault, NameWhy};

@@ -17,8 +17,6 @@ mod datagram;
 mod layer_reading;
 mod magic;
 mod packet;
-#[cfg(test)]
-mod tests;
 
 pub use address::Addr;
 pub use capture::{BadCapture, CaptureWhy, EndState, FeedFault};

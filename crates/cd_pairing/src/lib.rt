@@ -27,8 +27,6 @@ mod keyed;
 pub mod laws;
 mod queue;
 mod stamp;
-#[cfg(test)]
-mod tests;
 mod whole_list;
 
 pub use keyed::{Keyed, LEAST_WEIGHT, Side, Windows};

@@ -15,7 +15,5 @@
 pub mod laws;
 mod pcap_reader;
 mod record;
-#[cfg(test)]
-mod tests;
 
 pub use pcap_reader::PcapReader;

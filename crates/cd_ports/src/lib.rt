@@ -22,8 +22,6 @@ mod sink;
 mod source;
 mod std_ports;
 mod sure_source;
-#[cfg(test)]
-mod tests;
 
 pub use cut_source::CutSource;
 pub use mem_sink::MemSink;

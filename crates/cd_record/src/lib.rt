@@ -14,8 +14,6 @@ mod cutter;
 pub mod laws;
 mod run;
 mod tally;
-#[cfg(test)]
-mod tests;
 
 pub use block_making::kept_block;
 pub use block_records::BlockRecords;

@@ -29,8 +29,6 @@ mod run;
 mod spelling;
 mod status;
 mod tables;
-#[cfg(test)]
-mod tests;
 mod words;
 
 pub use run::{exit_code, run_plain};

@@ -19,8 +19,6 @@ pub mod laws;
 mod number;
 mod parts;
 mod setting;
-#[cfg(test)]
-mod tests;
 
 pub use command::{Command, read_words};
 pub use fault::WordsFault;
