@@ -20,6 +20,9 @@ const ADDR: Addr = Addr {
     octets: [192, 0, 2, 1, 0, 0, 0, 0, 0, 0, 0, 0, 0, 0, 0, 0],
 };
 
+// A query that is a header alone.
+const HEADER: [u8; 12] = [0x1a, 0x2b, 0, 0, 0, 0, 0, 0, 0, 0, 0, 0];
+
 // The event of a payload of at most 65,535 bytes.
 fn event(alloc: Global, payload: &[u8]) -> Result<Event, AllocError>
     ensures { IfOk result (λ event. IsLight (parts_of event)) }
@@ -74,7 +77,7 @@ fn push(
 }
 
 #[test]
-fn two_malformed_messages_are_two_blocks(rt: HostRuntime) -> Result<(), AllocError> {
+fn a_second_malformed_message_begins_a_block(rt: HostRuntime) -> Result<(), AllocError> {
     let mut settings = default_settings(rt.alloc())?;
     settings.put(NumberOption::BlockItems, 1);
     let mut cutter = Cutter::new(rt.alloc(), &settings);
@@ -82,12 +85,15 @@ fn two_malformed_messages_are_two_blocks(rt: HostRuntime) -> Result<(), AllocErr
     assert!(rt; given.is_none());
     let given = push(&mut cutter, &settings, alone(event(rt.alloc(), b"\x1b")?))?;
     assert!(rt; given.is_some());
-    assert_eq!(rt; cutter.pending(), 1);
-    assert!(rt; cutter.pending_weight() > 0);
+    let given = push(&mut cutter, &settings, alone(event(rt.alloc(), &HEADER)?))?;
+    assert!(rt; given.is_none());
+    assert_eq!(rt; cutter.pending(), 2);
+    assert_eq!(rt; cutter.pending_weight(), 513);
     let Some(run) = cutter.finish() else {
         panic!(rt; "no run");
     };
     let block = kept_block(rt.alloc(), &settings, &run)?;
+    assert_eq!(rt; block.items.as_slice().len(), 1);
     assert_eq!(rt; block.malformed.as_slice().len(), 1);
     Ok(())
 }
