@@ -5,3 +5,4 @@ pub mod Traversal
 pub mod Equality
 pub mod Tables
 pub mod Resolving
+pub mod Giving
