@@ -1,3 +1,8 @@
 pub mod KeyTables
 pub mod HintTables
 pub mod FlagTables
+pub mod Traversal
+pub mod Equality
+pub mod Tables
+pub mod Resolving
+pub mod Giving
