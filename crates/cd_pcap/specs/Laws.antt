@@ -1,5 +1,6 @@
 -- What is known of each capture, of each reader, and of the refused place of a capture.
 use Rattle.std.specs.Prelude.{◌≡◌, ℕ, ◌+◌, ◌<◌, ◌≤◌, List, [], ◌∷◌, ◌++◌, length, take, Some, All}
+use Rattle.std.specs.List.{sum_by}
 use Rattle.cd_packet.specs.declared.capture.BadCapture.{BadCapture}
 use Rattle.cd_packet.specs.declared.capture.EndState.TheVariants.{Bad}
 use Rattle.cd_packet.specs.declared.packet.Packet.{Packet}
@@ -33,6 +34,14 @@ GivenAreFirst = (r : Kept) (fed : List ℕ) (given : List Packet) → StandsFor 
 -- a refused place stays as the bytes go on
 abbrev pub RefusalsStay : Type 0
 RefusalsStay = (fed more : List ℕ) (bad : BadCapture) → refusal_of fed ≡ Some bad → refusal_of (fed ++ more) ≡ Some bad
+
+-- so many bytes the record of a packet takes: its header of 16 bytes, and the captured ones (the pcap draft, 5)
+abbrev pub record_size : Packet → ℕ
+record_size p = 16 + length p.bytes
+
+-- the records of all packets of a capture together take no more bytes than it has
+abbrev pub PacketsAreWithin : Type 0
+PacketsAreWithin = (bytes : List ℕ) → sum_by record_size (pcap bytes).packets ≤ length bytes
 
 -- all packets stand before the refused place
 abbrev pub PacketsStandBefore : Type 0
