@@ -23,9 +23,16 @@ abbrev pub RecordsAreRead : Type 0
 RecordsAreRead = (form : Form) (link at : ℕ) (r : RawRecord) (rest : List ℕ) → Fits r →
     records form link 0 at (spelling_of form r ++ rest) ≡ after (packet_of_raw form link at r ∷ []) (records form link 0 (at + (16 + length r.captured)) rest)
 
--- From four bytes on, the packets of a capture stay as its bytes go on, and after a refused place nothing comes.
+-- What a capture becomes as its bytes go on. Fewer than four bytes hold no packet, whatever they become. From four bytes on
+-- the packets stay, and after a refused place nothing comes.
+pub record GoesOn (bytes more : List ℕ) : Type 0 where
+  pub packets : (rest : List Packet) × ((pcap (bytes ++ more)).packets ≡ (pcap bytes).packets ++ rest)
+  pub few : length bytes < 4 → (pcap bytes).packets ≡ []
+  pub many : 4 ≤ length bytes → Grows (pcap bytes) (pcap (bytes ++ more))
+
+-- as its bytes go on, a capture keeps its packets, and from four bytes on its refused place too
 abbrev pub CapturesGrow : Type 0
-CapturesGrow = (bytes more : List ℕ) → 4 ≤ length bytes → Grows (pcap bytes) (pcap (bytes ++ more))
+CapturesGrow = (bytes more : List ℕ) → GoesOn bytes more
 
 -- the packets given are the first of those in the bytes fed
 abbrev pub GivenAreFirst : Type 0

@@ -19,7 +19,8 @@ pub fn spelled_records_are_read()
     ensures { RecordsAreRead }
 {}
 
-/// From four bytes on, the packets of a capture stay as its bytes go on, and after a refused place nothing comes.
+/// The packets of a capture stay as its bytes go on. Fewer than four bytes hold none, and from four bytes on nothing comes
+/// after a refused place.
 pub fn captures_grow()
     ensures { CapturesGrow }
 {}
