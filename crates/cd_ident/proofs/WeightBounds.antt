@@ -13,7 +13,7 @@ use Rattle.cd_ident.specs.Events.{event_parts, parts_of_reading}
 use Rattle.cd_ident.specs.EventWeights.{EventWeightsAreBounded, EventWeightsAreLinear, SumsOfWeightsAreLinear}
 use Rattle.cd_ident.specs.Headers.{is_listed, opcode_of}
 
--- a weight of 256 at least, and of 829 sixteenths of so many bytes and five more at most
+-- a weight of 256 at least, of which sixteen times is at most 829 times a number five above so many bytes
 record IsLinear (weight bytes : ℕ) : Type 0 where
   least : 256 ≤ weight
   greatest : 16 * weight ≤ 829 * (bytes + 5)

@@ -20,12 +20,13 @@ abbrev pub EventWeightsAreBounded : Type 0
 EventWeightsAreBounded = (rules : EventRules) (d : Datagram) → length d.payload ≤ 65535 →
     IsEventWeight (event_parts rules d).weight
 
--- the event of a datagram weighs at most 829 sixteenths of its payload and five bytes more
+-- sixteen times the weight of the event of a datagram is at most 829 times a number five above the length of its payload
 abbrev pub EventWeightsAreLinear : Type 0
 EventWeightsAreLinear = (rules : EventRules) (d : Datagram) →
     16 * (event_parts rules d).weight ≤ 829 * (length d.payload + 5)
 
--- the events of some datagrams weigh together at most 829 sixteenths of their payloads and five bytes more for each
+-- sixteen times what the events of some datagrams weigh together is at most 829 times the sum of such numbers: the
+-- length of the payload and five, for each
 abbrev pub SumsOfWeightsAreLinear : Type 0
 SumsOfWeightsAreLinear = (rules : EventRules) (ds : List Datagram) →
     16 * sum_by (λ d. (event_parts rules d).weight) ds ≤ 829 * sum_by (λ d. length d.payload + 5) ds

@@ -31,14 +31,14 @@ pub fn event_weights_are_bounded()
     ensures { EventWeightsAreBounded }
 {}
 
-/// The event of a datagram weighs at most 829 sixteenths of the length of its payload and five bytes more.
+/// Sixteen times the weight of the event of a datagram is at most 829 times a number: the length of its payload in bytes,
+/// and five. The payload may have any length.
 pub fn event_weights_are_linear()
     ensures { EventWeightsAreLinear }
 {}
 
-/// The events of some datagrams weigh together at most 829 sixteenths of the length of all payloads and five bytes
-/// more for each. A capture takes more than five bytes for a datagram besides its payload, so all events of 2^48
-/// bytes weigh less than 2^63.
+/// Sixteen times what the events of some datagrams weigh together is at most 829 times a number: the sum over the
+/// datagrams of the length of the payload in bytes, and five for each.
 pub fn sums_of_weights_are_linear()
     ensures { SumsOfWeightsAreLinear }
 {}

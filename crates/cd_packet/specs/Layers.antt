@@ -45,8 +45,8 @@ abbrev pub skip_for_missing : Packet → Found
 skip_for_missing p = if nat_lt (length p.bytes) p.original then skipped Cut else skipped Length
 
 -- the IPv4 address at an offset
-abbrev pub address_at : ℕ → List ℕ → Addr
-address_at at bytes = record {
+abbrev pub ipv4_at : ℕ → List ℕ → Addr
+ipv4_at at bytes = record {
   v6 = false;
   octets = slice_index bytes at ∷ slice_index bytes (at + 1) ∷ slice_index bytes (at + 2) ∷ slice_index bytes (at + 3) ∷ 0 ∷ 0 ∷ 0 ∷ 0 ∷ 0 ∷ 0 ∷ 0 ∷ 0 ∷ 0 ∷ 0 ∷ 0 ∷ 0 ∷ [];
   padded = λ _. refl;
@@ -89,8 +89,8 @@ total_length at bytes = be16 (at + 2) bytes
 -- what the IPv4 header at an offset says of the datagram after it
 abbrev pub ipv4_packet : ℕ → List ℕ → IpPacket
 ipv4_packet at bytes = record {
-  src = address_at (at + 12) bytes;
-  dst = address_at (at + 16) bytes;
+  src = ipv4_at (at + 12) bytes;
+  dst = ipv4_at (at + 16) bytes;
   hop = slice_index bytes (at + 8);
   transport = at + header_length at bytes;
   end = at + total_length at bytes;

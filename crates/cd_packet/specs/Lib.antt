@@ -3,3 +3,4 @@ pub mod Time
 pub mod Capture
 pub mod Layers
 pub mod IpPackets
+pub mod Payloads

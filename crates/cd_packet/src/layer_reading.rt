@@ -3,7 +3,7 @@
 ghost use Rattle.std.specs.Prelude.{◌≡◌, ◌+◌, ◌<◌, ◌≤◌, ◌↔◌, IsTrue, length};
 ghost use Rattle.cd_bytes.specs.Numbers.{be16};
 ghost use Rattle.cd_packet.specs.IpPackets.{ip_packet_of};
-ghost use Rattle.cd_packet.specs.Layers.{HasOneVersion, HasShortPayload, found_in, skipped, skip_for_missing, address_at, udp_layer, ipv4_layer, ethernet_layer, layer_of, IsEthernetIpv4};
+ghost use Rattle.cd_packet.specs.Layers.{HasOneVersion, HasShortPayload, found_in, skipped, skip_for_missing, ipv4_at, udp_layer, ipv4_layer, ethernet_layer, layer_of, IsEthernetIpv4};
 ghost use Rattle.cd_packet.specs.Time.{end_of_time};
 
 use crate::{Addr, Dgram, Layer, Packet, Reason, When};
@@ -45,9 +45,9 @@ fn missing_why(packet: &Packet) -> Reason
 }
 
 // The IPv4 address at an offset.
-fn address(bytes: &[u8], at: usize) -> Addr
+fn ipv4_address(bytes: &[u8], at: usize) -> Addr
     requires { at + 4 ≤ length bytes.now }
-    ensures { result ≡ address_at at bytes.now }
+    ensures { result ≡ ipv4_at at bytes.now }
 {
     Addr {
         v6: false,
@@ -138,8 +138,8 @@ fn ipv4<'a>(packet: &'a Packet, port: u16, time: u64, at: usize) -> Layer<'a>
         return Layer::Skip(missing_why(packet));
     }
     let ip = IpPacket {
-        src: address(bytes, at + 12),
-        dst: address(bytes, at + 16),
+        src: ipv4_address(bytes, at + 12),
+        dst: ipv4_address(bytes, at + 16),
         hop: bytes[at + 8],
         transport: at + header,
         end: at + total,

@@ -14,6 +14,7 @@
 mod address;
 mod capture;
 mod datagram;
+pub mod laws;
 mod layer_reading;
 mod magic;
 mod packet;

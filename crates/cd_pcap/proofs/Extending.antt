@@ -4,11 +4,12 @@ use Rattle.std.proofs.lemmas.Bool.{cases_lt, cases_eq, cases_Bool}
 use Rattle.std.proofs.lemmas.List.{length-drop}
 use Rattle.cd_bytes.proofs.Offsets.{le16-append, number32_at-append}
 use Rattle.cd_packet.specs.Capture.{Capture, ends, after, IsWholeOrCut, Grows}
+use Rattle.cd_pcap.specs.Laws.{CapturesGrow}
 use Rattle.cd_pcap.specs.Pcap.{Form, little_micros, version, link_type, captured_length, is_little_micro, packet_at, records, pcap}
 use Rattle.cd_packet.specs.declared.capture.EndState.{EndState}
 use Rattle.cd_packet.specs.declared.capture.CaptureWhy.TheVariants.{Magic, Version, Record}
 use Rattle.cd_pcap.proofs.Records.{records-short, records-refused, records-cut, records-first, pcap-magic, pcap-short, pcap-version, pcap-records}
-use Rattle.cd_packet.proofs.Growing.{has_magic-append, grows_at, grows_whole, grows_cut, grows_refused, grows_after}
+use Rattle.cd_packet.proofs.Growing.{has_magic-append, has_magic-few, grows_at, grows_whole, grows_cut, grows_refused, grows_after}
 use Rattle.cd_pcap.proofs.Going.{packet_at-append, pcap-front}
 
 open_at : (e : EndState) (c : Capture) → c ≡ ends e → IsWholeOrCut c.end → IsWholeOrCut e
@@ -108,41 +109,17 @@ pcap-grow xs more four =
       ]
     ]
 
-within_at : (c d : Capture) (n : ℕ) → c ≡ d → length d.packets ≤ n → length c.packets ≤ n
-within_at c d n is h = let P : Capture → Type 0 = λ k. length k.packets ≤ n in subst P (sym is) h
+-- fewer than four bytes hold no packet
+pcap-few_bytes : (bytes : List ℕ) → length bytes < 4 → (pcap bytes).packets ≡ []
+pcap-few_bytes bytes few = ap (λ (c : Capture). c.packets) (pcap-magic bytes (has_magic-few 0xa1b2c3d4 bytes few))
 
--- records are not more than bytes
-records-within : (form : Form) (link inside at : ℕ) (bytes : List ℕ) → length (records form link inside at bytes).packets ≤ length bytes
-unfolding records
-records-within form link zero at [] = omega arith
-records-within form link (suc inside) at [] = omega arith
-records-within form link (suc inside) at (b ∷ bytes) = let k = records-within form link inside (at + 1) bytes in omega arith
-records-within form link zero at (b ∷ bytes) =
-    elim (cases_lt (length (b ∷ bytes)) 16) [
-      | inl short ↦ within_at _ _ _ (records-short form link at (b ∷ bytes) (omega arith) short) (omega arith)
-      | inr long ↦ elim (cases_lt 262144 (captured_length form (b ∷ bytes))) [
-        | inl large ↦ within_at _ _ _ (records-refused form link at (b ∷ bytes) long large) (omega arith)
-        | inr small ↦ elim (cases_lt (length (b ∷ bytes)) (16 + captured_length form (b ∷ bytes))) [
-          | inl cut ↦ within_at _ _ _ (records-cut form link at (b ∷ bytes) long small cut) (omega arith)
-          | inr whole ↦
-              let k = records-within form link (15 + captured_length form (b ∷ bytes)) (at + 1) bytes in
-              within_at _ _ _ (records-first form link at b bytes long small whole) (omega arith)
-        ]
-      ]
-    ]
-
--- the packets of a capture are not more than its bytes
-pub pcap-within : (bytes : List ℕ) → length (pcap bytes).packets ≤ length bytes
-pcap-within bytes =
-    elim (cases_Bool (is_little_micro bytes)) [
-      | inr other ↦ within_at _ _ _ (pcap-magic bytes other) (omega arith)
-      | inl magic ↦ elim (cases_lt (length bytes) 24) [
-        | inl short ↦ within_at _ _ _ (pcap-short bytes magic short) (omega arith)
-        | inr long ↦ elim (cases_eq (version little_micros bytes) 2) [
-          | inr three ↦ within_at _ _ _ (pcap-version bytes magic long three) (omega arith)
-          | inl two ↦
-              let k = records-within little_micros (link_type little_micros bytes) 0 24 (drop 24 bytes) in
-              within_at _ _ _ (pcap-records bytes magic long two) (omega (arith, length-drop 24 bytes))
-        ]
-      ]
-    ]
+-- any bytes as others come after them
+pub pcap-goes_on : CapturesGrow
+pcap-goes_on bytes more = record {
+  packets = elim (cases_lt (length bytes) 4) [
+    | inl few ↦ ((pcap (bytes ++ more)).packets, rw (pcap-few_bytes bytes few) refl)
+    | inr many ↦ let g = pcap-grow bytes more many in (g.rest.packets, ap (λ (c : Capture). c.packets) g.packets)
+  ];
+  few = pcap-few_bytes bytes;
+  many = pcap-grow bytes more;
+}

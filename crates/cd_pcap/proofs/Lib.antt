@@ -7,5 +7,6 @@ pub mod ReadSpelled
 pub mod Fronts
 pub mod Marks
 pub mod Refusals
+pub mod Sizes
 pub mod Standing
 pub mod Inside

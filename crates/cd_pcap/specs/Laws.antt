@@ -1,5 +1,6 @@
 -- What is known of each capture, of each reader, and of the refused place of a capture.
 use Rattle.std.specs.Prelude.{◌≡◌, ℕ, ◌+◌, ◌<◌, ◌≤◌, List, [], ◌∷◌, ◌++◌, length, take, Some, All}
+use Rattle.std.specs.List.{sum_by}
 use Rattle.cd_packet.specs.declared.capture.BadCapture.{BadCapture}
 use Rattle.cd_packet.specs.declared.capture.EndState.TheVariants.{Bad}
 use Rattle.cd_packet.specs.declared.packet.Packet.{Packet}
@@ -22,9 +23,16 @@ abbrev pub RecordsAreRead : Type 0
 RecordsAreRead = (form : Form) (link at : ℕ) (r : RawRecord) (rest : List ℕ) → Fits r →
     records form link 0 at (spelling_of form r ++ rest) ≡ after (packet_of_raw form link at r ∷ []) (records form link 0 (at + (16 + length r.captured)) rest)
 
--- From four bytes on, the packets of a capture stay as its bytes go on, and after a refused place nothing comes.
+-- What a capture becomes as its bytes go on. Fewer than four bytes hold no packet, whatever they become. From four bytes on
+-- the packets stay, and after a refused place nothing comes.
+pub record GoesOn (bytes more : List ℕ) : Type 0 where
+  pub packets : (rest : List Packet) × ((pcap (bytes ++ more)).packets ≡ (pcap bytes).packets ++ rest)
+  pub few : length bytes < 4 → (pcap bytes).packets ≡ []
+  pub many : 4 ≤ length bytes → Grows (pcap bytes) (pcap (bytes ++ more))
+
+-- as its bytes go on, a capture keeps its packets, and from four bytes on its refused place too
 abbrev pub CapturesGrow : Type 0
-CapturesGrow = (bytes more : List ℕ) → 4 ≤ length bytes → Grows (pcap bytes) (pcap (bytes ++ more))
+CapturesGrow = (bytes more : List ℕ) → GoesOn bytes more
 
 -- the packets given are the first of those in the bytes fed
 abbrev pub GivenAreFirst : Type 0
@@ -33,6 +41,14 @@ GivenAreFirst = (r : Kept) (fed : List ℕ) (given : List Packet) → StandsFor 
 -- a refused place stays as the bytes go on
 abbrev pub RefusalsStay : Type 0
 RefusalsStay = (fed more : List ℕ) (bad : BadCapture) → refusal_of fed ≡ Some bad → refusal_of (fed ++ more) ≡ Some bad
+
+-- so many bytes the record of a packet takes: its header of 16 bytes, and the captured ones (the pcap draft, 5)
+abbrev pub record_size : Packet → ℕ
+record_size p = 16 + length p.bytes
+
+-- the records of all packets of a capture together take no more bytes than it has
+abbrev pub PacketsAreWithin : Type 0
+PacketsAreWithin = (bytes : List ℕ) → sum_by record_size (pcap bytes).packets ≤ length bytes
 
 -- all packets stand before the refused place
 abbrev pub PacketsStandBefore : Type 0

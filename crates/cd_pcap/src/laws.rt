@@ -1,6 +1,7 @@
 //! Laws on the definitions, each the contract of a function that does nothing.
 
-ghost use Rattle.cd_pcap.specs.Laws.{ReadIsSpelled, SpelledIsRead, RecordsAreRead, CapturesGrow, GivenAreFirst, RefusalsStay, PacketsStandBefore};
+ghost use Rattle.cd_pcap.specs.Laws.{ReadIsSpelled, SpelledIsRead, RecordsAreRead, CapturesGrow, GivenAreFirst, RefusalsStay};
+ghost use Rattle.cd_pcap.specs.Laws.{PacketsAreWithin, PacketsStandBefore};
 
 /// What is read of some bytes is what they spell: a header, records and what stands after them (the pcap draft, 4 and 5).
 pub fn what_is_read_is_spelled()
@@ -18,7 +19,8 @@ pub fn spelled_records_are_read()
     ensures { RecordsAreRead }
 {}
 
-/// From four bytes on, the packets of a capture stay as its bytes go on, and after a refused place nothing comes.
+/// The packets of a capture stay as its bytes go on. Fewer than four bytes hold none, and from four bytes on nothing comes
+/// after a refused place.
 pub fn captures_grow()
     ensures { CapturesGrow }
 {}
@@ -31,6 +33,12 @@ pub fn given_packets_are_first()
 /// A refused place stays as more bytes are fed.
 pub fn refusals_stay()
     ensures { RefusalsStay }
+{}
+
+/// The records of all packets of a capture, each of 16 bytes and the captured ones, together take no more bytes than the
+/// capture has (the pcap draft, 5).
+pub fn packets_are_within_the_capture()
+    ensures { PacketsAreWithin }
 {}
 
 /// The bytes before a refused place have all packets of the capture.

@@ -1,4 +1,5 @@
 pub mod Events
+pub mod EventWeights
 pub mod Exchanges
 pub mod Kept
 pub mod Tables

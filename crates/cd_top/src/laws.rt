@@ -1,6 +1,7 @@
-//! Laws of the words and of the file: contracts of functions that do nothing.
+//! Laws of the words, of the events and of the file: contracts of functions that do nothing.
 
 ghost use Rattle.std.specs.Prelude.{◌≢◌, ◌↔◌, ℕ, List, AllPairs, Contains};
+ghost use Rattle.cd_top.specs.EventWeights.{EventsAreLinear, EventsAreLight};
 ghost use Rattle.cd_top.specs.Filing.{EachListHasOneFile};
 ghost use Rattle.cd_top.specs.Tables.{table_of, same_address, same_sig};
 ghost use Rattle.cd_top.specs.Words.{LeavesOnce};
@@ -22,4 +23,14 @@ pub fn tables_hold_each_value_once()
     ensures all { (values : List (List ℕ)) (x : List ℕ) → Contains values x ↔ Contains (table_of same_address values) x }
     ensures signatures_once { (values : List Sig) → AllPairs (λ a b. a ≢ b) (table_of same_sig values) }
     ensures all_signatures { (values : List Sig) (x : Sig) → Contains values x ↔ Contains (table_of same_sig values) x }
+{}
+
+/// A law: sixteen times what the events of a capture weigh together is at most 829 times its length in bytes. It does nothing.
+pub fn weights_of_events_are_linear()
+    ensures { EventsAreLinear }
+{}
+
+/// A law: the events of a capture of at most 2^48 bytes weigh less than 2^63 together. It does nothing.
+pub fn events_are_light()
+    ensures { EventsAreLight }
 {}

@@ -1,14 +1,13 @@
 -- Words are a command line or break a rule at one place, in any language.
-use Rattle.std.proofs.Common.{◌≡◌, ℕ, ◌+◌, ◌*◌, ◌<◌, ◌≤◌, ◌⊎◌, inl, inr, ltb, Bool, true, false, List, [], ◌∷◌, length, take, get_or-take, Option, Some, None, is_some, IsSomeAnd, suc, zero, refl, sym, ap, ◌∙◌, subst, arith}
-use Rattle.std.specs.List.{list_any}
+use Rattle.std.proofs.Common.{◌≡◌, ◌≢◌, ℕ, ◌+◌, ◌*◌, ◌<◌, ◌≤◌, ◌⊎◌, inl, inr, ltb, Bool, true, false, List, [], ◌∷◌, length, take, get_or-take, Option, Some, None, is_some, IsSomeAnd, suc, zero, refl, sym, ap, ◌∙◌, subst, arith}
 use Rattle.std.specs.Str.{bytes_eq}
 use Rattle.std.proofs.lemmas.Bool.{false≢true, ltb-true, ltb-false}
 use Rattle.std.proofs.lemmas.List.{length-take-le, take_all}
 use Rattle.std.proofs.lemmas.Slice.Eq.{bytes_eq-Decides}
-use Rattle.cd_words.specs.CommandLines.{Language, word_at, HasCommand, NamesOption, SaysValue, IsCommandLine, BreaksAt}
+use Rattle.cd_words.specs.CommandLines.{Language, word_at, HasCommand, IsNamedBefore, NamesOption, SaysValue, IsCommandLine, BreaksAt}
 use Rattle.cd_words.specs.CommandLines.BreaksAt.{no_command, no_name, no_value}
 use Rattle.cd_words.specs.Laws.{BreaksOnce, LinesOrBreaks}
-use Rattle.cd_words.proofs.Places.{not_among, none_before}
+use Rattle.cd_words.proofs.Places.{first_name, second_name}
 use Rattle.cd_words.proofs.Lines.{name_of_front, value_of_front, first_line, line_more, missing_value}
 
 -- ---- one place
@@ -57,19 +56,51 @@ one_place language words first second a b = by (ltb first second) (ltb second fi
 
 -- ---- one or the other
 
--- each word says a value of an option or does not
-abbrev pub IsDecided : {C S : Type 0} → Language C S → Type 0
-IsDecided {C} language = (option : C) (word : List ℕ) → language.Says option word ⊎ ¬ (language.Says option word)
+-- each word says a value of an option or does not, and two options are the same or not
+pub record IsDecided {C S : Type 0} (language : Language C S) : Type 0 where
+  pub says : (option : C) (word : List ℕ) → language.Says option word ⊎ ¬ (language.Says option word)
+  pub same : (first second : C) → (first ≡ second) ⊎ (first ≢ second)
 
--- a word names an option or not
-names_or_not : {C S : Type 0} (language : Language C S) (words : List (List ℕ)) (place : ℕ) → place < length words → NamesOption language words place ⊎ ¬ (NamesOption language words place)
-names_or_not {C} language words place below = by (language.named (word_at words place)) (list_any (λ other. bytes_eq other (word_at words place)) (take place words)) refl refl
+-- a word that may name an option names this one or not
+is_it_or_not : {C S : Type 0} (language : Language C S) → IsDecided language → (o : Option C) (option : C) → (o ≡ Some option) ⊎ (o ≢ Some option)
+is_it_or_not language decided None option = inr (λ e. absurd (cc))
+is_it_or_not language decided (Some other) option =
+    elim (decided.same other option) [ inl same ↦ inl (ap Some same) | inr apart ↦ inr (λ e. apart (some_same e)) ]
   where
-    by : (o : Option C) (b : Bool) → language.named (word_at words place) ≡ o → list_any (λ other. bytes_eq other (word_at words place)) (take place words) ≡ b →
-        NamesOption language words place ⊎ ¬ (NamesOption language words place)
-    by None b e f = inr (λ names. false≢true (ap is_some (sym e) ∙ names.named))
-    by (Some option) true e f = inr (λ names. false≢true (sym (not_among words place below names.first) ∙ f))
-    by (Some option) false e f = inl (record { named = ap is_some e; first = none_before words place below f })
+    some_same : Some other ≡ Some option → other ≡ option
+    some_same e = cc
+
+-- one of so many first names names an option, or none does
+among_or_not : {C S : Type 0} (language : Language C S) → IsDecided language → (words : List (List ℕ)) (option : C) (n : ℕ) →
+    IsNamedBefore language words (2 * n) option ⊎ ¬ (IsNamedBefore language words (2 * n) option)
+among_or_not language decided words option zero = inr (λ named. absurd (omega (arith, named.1)))
+among_or_not language decided words option (suc n) =
+    by (among_or_not language decided words option n) (is_it_or_not language decided (language.named (word_at words (2 * n + 1))) option)
+  where
+    by : IsNamedBefore language words (2 * n) option ⊎ ¬ (IsNamedBefore language words (2 * n) option) →
+        (language.named (word_at words (2 * n + 1)) ≡ Some option) ⊎ (language.named (word_at words (2 * n + 1)) ≢ Some option) →
+        IsNamedBefore language words (2 * suc n) option ⊎ ¬ (IsNamedBefore language words (2 * suc n) option)
+    by (inl named) it = inl (named.0, omega (arith, named.1), named.2)
+    by (inr none) (inl it) = inl (n, omega arith, it)
+    by (inr none) (inr other) = inr (λ named. last named (ltb (2 * named.0 + 1) (2 * n)) refl)
+      where
+        last : (named : IsNamedBefore language words (2 * suc n) option) (b : Bool) → ltb (2 * named.0 + 1) (2 * n) ≡ b → ⊥
+        last named true e = none (named.0, ltb-true (2 * named.0 + 1) (2 * n) e, named.2)
+        last named false e =
+            let here : n ≡ named.0 = omega (arith, named.1, ltb-false (2 * named.0 + 1) (2 * n) e) in
+            other (ap (λ k. language.named (word_at words (2 * k + 1))) here ∙ named.2)
+
+-- the word at an odd place is a name or not
+names_or_not : {C S : Type 0} (language : Language C S) → IsDecided language → (words : List (List ℕ)) (j : ℕ) →
+    NamesOption language words (2 * j + 1) ⊎ ¬ (NamesOption language words (2 * j + 1))
+names_or_not {C} language decided words j = by (language.named (word_at words (2 * j + 1))) refl
+  where
+    by : (o : Option C) → language.named (word_at words (2 * j + 1)) ≡ o → NamesOption language words (2 * j + 1) ⊎ ¬ (NamesOption language words (2 * j + 1))
+    by None e = inr (λ names. false≢true (ap is_some (sym e) ∙ names.named))
+    by (Some option) e = elim (among_or_not language decided words option j) [
+      | inl named ↦ inr (second_name language words (2 * j + 1) option e (named.0, omega (arith, named.1), named.2))
+      | inr none ↦ inl (first_name language words (2 * j + 1) option e (λ named. none (named.0, omega (arith, named.1), named.2)))
+    ]
 
 -- the word after a name says a value of an option that may be named
 abbrev Said : {C S : Type 0} → Language C S → List (List ℕ) → ℕ → Option C → Type 0
@@ -81,7 +112,7 @@ value_or_not {C} language decided words place = by (ltb (place + 1) (length word
   where
     said : (o : Option C) → Said language words place o ⊎ ¬ (Said language words place o)
     said None = inr (λ h. h)
-    said (Some option) = decided option (word_at words (place + 1))
+    said (Some option) = decided.says option (word_at words (place + 1))
 
     by : (b : Bool) → ltb (place + 1) (length words) ≡ b → Said language words place (language.named (word_at words place)) ⊎ ¬ (Said language words place (language.named (word_at words place))) →
         SaysValue language words place ⊎ ¬ (SaysValue language words place)
@@ -105,7 +136,7 @@ all_or_longer language decided words k within line = by (ltb (2 * k + 1) (length
         let all : take (2 * k + 1) words ≡ words = take_all (2 * k + 1) words (ltb-false (2 * k + 1) (length words) e) in
         let P : List (List ℕ) → Type 0 = λ ws. IsCommandLine language ws in
         inl (inl (subst P all line))
-    by true e = named (ltb-true (2 * k + 1) (length words) e) (names_or_not language words (2 * k + 1) (ltb-true (2 * k + 1) (length words) e)) (value_or_not language decided words (2 * k + 1))
+    by true e = named (ltb-true (2 * k + 1) (length words) e) (names_or_not language decided words k) (value_or_not language decided words (2 * k + 1))
       where
         named : 2 * k + 1 < length words → NamesOption language words (2 * k + 1) ⊎ ¬ (NamesOption language words (2 * k + 1)) → SaysValue language words (2 * k + 1) ⊎ ¬ (SaysValue language words (2 * k + 1)) →
             Judged language words ⊎ Longer language words (k + 1)
@@ -143,7 +174,7 @@ command_or_not language (word ∷ words) = by (bytes_eq word language.command) r
     by true e = inl (omega arith, (bytes_eq-Decides word language.command).0 e)
     by false e = inr (λ command. false≢true (sym e ∙ (bytes_eq-Decides word language.command).1 command.1))
 
--- one or the other, at one place, where each word says a value of an option or does not
+-- one or the other, at one place, where the language is decided
 pub line_or_break : {C S : Type 0} (language : Language C S) → IsDecided language → LinesOrBreaks language
 line_or_break language decided words = by (command_or_not language words)
   where

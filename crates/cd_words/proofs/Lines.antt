@@ -4,20 +4,25 @@ use Rattle.std.proofs.lemmas.Bool.{ltb-true, ltb-false}
 use Rattle.std.proofs.lemmas.List.{length-take-le, take_more}
 use Rattle.std.specs.Option.{option_map_or}
 use Rattle.cd_words.specs.CommandLines.{Language, word_at, HasCommand, NamesOption, SaysValue, IsCommandLine, BreaksAt, settings_from, settings_of}
-use Rattle.cd_words.specs.CommandLines.BreaksAt.{no_name, no_value}
+use Rattle.cd_words.specs.CommandLines.BreaksAt.{no_command, no_name, no_value}
+use Rattle.cd_words.specs.Faults.{BreaksAfterCommand}
 
 -- a name among the first words is one among all
 pub name_of_front : {C S : Type 0} (language : Language C S) (words : List (List ℕ)) (n place : ℕ) → place < n → NamesOption language (take n words) place → NamesOption language words place
 name_of_front language words n place below names = record {
   named = rw (← get_or-take n words place [] below) names.named;
-  first = λ before under same. names.first before under (get_or-take n words before [] (omega arith) ∙ same ∙ sym (get_or-take n words place [] below));
+  first = λ k under same.
+      names.first k under
+      (ap language.named (get_or-take n words (2 * k + 1) [] (omega arith)) ∙ same ∙ sym (ap language.named (get_or-take n words place [] below)));
 }
 
 -- and the other way round
 pub name_in_front : {C S : Type 0} (language : Language C S) (words : List (List ℕ)) (n place : ℕ) → place < n → NamesOption language words place → NamesOption language (take n words) place
 name_in_front language words n place below names = record {
   named = rw (get_or-take n words place [] below) names.named;
-  first = λ before under same. names.first before under (sym (get_or-take n words before [] (omega arith)) ∙ same ∙ get_or-take n words place [] below);
+  first = λ k under same.
+      names.first k under
+      (sym (ap language.named (get_or-take n words (2 * k + 1) [] (omega arith))) ∙ same ∙ ap language.named (get_or-take n words place [] below));
 }
 
 -- a value among the first words is one among all
@@ -132,6 +137,12 @@ pub breaks_name : {C S : Type 0} (language : Language C S) (words : List (List �
 breaks_name language words place k odd there line other =
     let P : ℕ → Type 0 = λ p. p < length words → IsCommandLine language (take p words) → ¬ (NamesOption language words p) → BreaksAt language words p in
     subst P (sym odd) (no_name k) there line other
+
+-- words that begin with a command break a rule after it
+pub breaks_after : {C S : Type 0} (language : Language C S) (words : List (List ℕ)) (place : ℕ) → HasCommand language words → BreaksAt language words place → BreaksAfterCommand language words place
+breaks_after language words _ command (no_command other) = absurd (other command)
+breaks_after language words _ command (no_name k there line other) = record { command = command; after = omega arith; breaks = no_name k there line other }
+breaks_after language words _ command (no_value k there line name other) = record { command = command; after = omega arith; breaks = no_value k there line name other }
 
 -- after a name stands no value
 pub breaks_value : {C S : Type 0} (language : Language C S) (words : List (List ℕ)) (place k : ℕ) → place ≡ 2 * k + 1 → place < length words →

@@ -1,7 +1,8 @@
 -- The names of options differ.
-use Rattle.std.proofs.Common.{◌≡◌, ◌≢◌, ℕ, Bool, true, false, cond, List, [], ◌∷◌, ◌++◌, Option, Some, None, refl, sym, ap, ◌∙◌}
+use Rattle.std.proofs.Common.{◌≡◌, ◌≢◌, ◌⊎◌, inl, inr, ℕ, Bool, true, false, cond, List, [], ◌∷◌, ◌++◌, Option, Some, None, refl, sym, ap, ◌∙◌}
 use Rattle.std.specs.List.{find}
 use Rattle.std.specs.Str.{bytes_eq}
+use Rattle.std.proofs.lemmas.Bool.{false≢true}
 use Rattle.std.proofs.lemmas.Slice.Eq.{bytes_eq-Decides}
 use Rattle.cd_hints.specs.Options.{name_of, list_name_of}
 use Rattle.cd_words.specs.declared.compact_option.CompactOption.{CompactOption}
@@ -79,3 +80,16 @@ no_name word name split numbers lists = names_none word by
     by : (option : CompactOption) → word ≢ word_of option
     by (Number option) e = numbers option (sym (after_dashes (sym split ∙ e)))
     by (Parts option) e = lists option (sym (after_dashes (sym split ∙ e)))
+
+-- two options are the same or not, as their words are
+pub same_or_not : (first second : CompactOption) → (first ≡ second) ⊎ (first ≢ second)
+same_or_not first second = by (bytes_eq (word_of first) (word_of second)) refl
+  where
+    some_same : Some first ≡ Some second → first ≡ second
+    some_same e = cc
+
+    by : (b : Bool) → bytes_eq (word_of first) (word_of second) ≡ b → (first ≡ second) ⊎ (first ≢ second)
+    by true e =
+        let words : word_of first ≡ word_of second = (bytes_eq-Decides (word_of first) (word_of second)).0 e in
+        inl (some_same (sym (options_named first) ∙ ap option_named words ∙ options_named second))
+    by false e = inr (λ same. false≢true (sym e ∙ (bytes_eq-Decides (word_of first) (word_of second)).1 (ap word_of same)))

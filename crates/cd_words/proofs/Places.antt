@@ -1,47 +1,43 @@
--- The words of a command line, by their places.
-use Rattle.std.proofs.Common.{◌≡◌, ◌≢◌, ℕ, ◌<◌, Bool, true, false, List, [], length, get_or, take, get_or-take, refl, sym, ap, ◌∙◌, arith}
-use Rattle.std.specs.List.{list_any}
-use Rattle.std.specs.Str.{bytes_eq}
-use Rattle.std.proofs.lemmas.Bool.{false≢true}
-use Rattle.std.proofs.lemmas.List.{length-take-le}
-use Rattle.std.proofs.lemmas.List.Elements.{All-from_get_or}
-use Rattle.std.proofs.lemmas.List.Folds.{list_any_none}
-use Rattle.std.proofs.lemmas.List.Recursion.{or_at}
-use Rattle.std.proofs.lemmas.Slice.Eq.{bytes_eq-Decides}
-use Rattle.std.proofs.Common.{Option, Some, None, is_some, MatchOption}
-use Rattle.cd_words.specs.CommandLines.{Language, word_at, NamesOption}
+-- The names of a command line, by their places.
+use Rattle.std.proofs.Common.{◌≡◌, ◌≢◌, ℕ, ◌+◌, ◌*◌, ◌%◌, ◌/◌, ◌<◌, ◌≤◌, ltb, Bool, true, false, List, Option, Some, sym, ap, ◌∙◌, refl, subst, arith, is_some}
+use Rattle.std.proofs.lemmas.Bool.{ltb-true, ltb-false}
+use Rattle.cd_words.specs.CommandLines.{Language, word_at, IsNamedBefore, NamesOption}
 
--- other bytes differ by the test
-other_bytes : (xs ys : List ℕ) → xs ≢ ys → bytes_eq xs ys ≡ false
-other_bytes xs ys apart = by (bytes_eq xs ys) refl
+-- an option that a name at an odd place names
+pub named_there : {C S : Type 0} (language : Language C S) (words : List (List ℕ)) (before place : ℕ) (option : C) → before % 2 ≡ 1 → before < place →
+    language.named (word_at words before) ≡ Some option → IsNamedBefore language words place option
+named_there language words before place option odd there named =
+    let here : before ≡ 2 * (before / 2) + 1 = omega arith in
+    (before / 2, omega arith, ap (λ n. language.named (word_at words n)) (sym here) ∙ named)
+
+-- none before the first name
+pub none_named : {C S : Type 0} (language : Language C S) (words : List (List ℕ)) (option : C) → ¬ (IsNamedBefore language words 1 option)
+none_named language words option named = absurd (omega (arith, named.1))
+
+-- none before the next name
+pub none_named_more : {C S : Type 0} (language : Language C S) (words : List (List ℕ)) (before : ℕ) (option : C) → before % 2 ≡ 1 →
+    ¬ (IsNamedBefore language words before option) → (language.named (word_at words before) ≢ Some option) → ¬ (IsNamedBefore language words (before + 2) option)
+none_named_more language words before option odd none other named = by (ltb (2 * named.0 + 1) before) refl
   where
-    by : (b : Bool) → bytes_eq xs ys ≡ b → b ≡ false
-    by true e = absurd (apart ((bytes_eq-Decides xs ys).0 e))
-    by false e = refl
+    by : (b : Bool) → ltb (2 * named.0 + 1) before ≡ b → ⊥
+    by true e = none (named.0, ltb-true (2 * named.0 + 1) before e, named.2)
+    by false e =
+        let below : before ≤ 2 * named.0 + 1 = ltb-false (2 * named.0 + 1) before e in
+        let above : 2 * named.0 + 1 < before + 2 = named.1 in
+        let here : before ≡ 2 * named.0 + 1 = omega (arith, below, above, odd) in
+        other (ap (λ n. language.named (word_at words n)) here ∙ named.2)
 
--- a word is none of those before it, by the test
-pub not_among : (words : List (List ℕ)) (place : ℕ) → place < length words → ((before : ℕ) → before < place → word_at words before ≢ word_at words place) →
-    list_any (λ other. bytes_eq other (word_at words place)) (take place words) ≡ false
-not_among words place below apart =
-    list_any_none (λ other. bytes_eq other (word_at words place)) (take place words)
-    (All-from_get_or (λ other. bytes_eq other (word_at words place) ≡ false) (take place words) [] (λ i under.
-    let before : i < place = omega (arith, under, length-take-le place words (omega arith)) in
-    rw (get_or-take place words i [] before) (other_bytes (word_at words i) (word_at words place) (apart i before))))
+-- none before a place that is not after those that were passed
+pub none_named_before : {C S : Type 0} (language : Language C S) (words : List (List ℕ)) (place passed : ℕ) (option : C) → place ≤ passed →
+    ¬ (IsNamedBefore language words passed option) → ¬ (IsNamedBefore language words place option)
+none_named_before language words place passed option within none named = none (named.0, omega (arith, named.1), named.2)
 
--- a word is none of those before it, if the test says so
-pub none_before : (words : List (List ℕ)) (place : ℕ) → place < length words → list_any (λ other. bytes_eq other (word_at words place)) (take place words) ≡ false →
-    (before : ℕ) → before < place → word_at words before ≢ word_at words place
-none_before words place below none before under same =
-    let within : before < length (take place words) = omega (arith, length-take-le place words (omega arith)) in
-    let alike : bytes_eq (get_or (take place words) before []) (word_at words place) ≡ true =
-    (bytes_eq-Decides (get_or (take place words) before []) (word_at words place)).1 (get_or-take place words before [] under ∙ same) in
-    let some : list_any (λ other. bytes_eq other (word_at words place)) (take place words) ≡ true =
-    or_at (list_any (λ other. bytes_eq other (word_at words place))) (λ other. bytes_eq other (word_at words place)) refl (λ _ _. refl) (take place words) before [] within alike in
-    false≢true (sym none ∙ some)
+-- a word that names an option is a name, where no name before it names this option
+pub first_name : {C S : Type 0} (language : Language C S) (words : List (List ℕ)) (place : ℕ) (option : C) → language.named (word_at words place) ≡ Some option →
+    ¬ (IsNamedBefore language words place option) → NamesOption language words place
+first_name language words place option named none = record { named = ap is_some named; first = λ k there same. none (k, there, same ∙ named) }
 
--- what a word names, where it is none of those before it
-pub names_first : {C S : Type 0} (language : Language C S) (words : List (List ℕ)) (place : ℕ) (o : Option C) → o ≡ language.named (word_at words place) →
-    ((before : ℕ) → before < place → word_at words before ≢ word_at words place) →
-    MatchOption o (¬ (NamesOption language words place)) (λ option. NamesOption language words place × (language.named (word_at words place) ≡ Some option))
-names_first language words place None e apart = λ names. false≢true (ap is_some e ∙ names.named)
-names_first language words place (Some option) e apart = (record { named = rw (← e) refl; first = apart }, sym e)
+-- and it is none, where one does
+pub second_name : {C S : Type 0} (language : Language C S) (words : List (List ℕ)) (place : ℕ) (option : C) → language.named (word_at words place) ≡ Some option →
+    IsNamedBefore language words place option → ¬ (NamesOption language words place)
+second_name language words place option named before names = names.first before.0 before.1 (before.2 ∙ sym named)

@@ -1,5 +1,5 @@
 -- The language of the words of a command: the grammar of command lines, for any command.
-use Rattle.std.specs.Prelude.{◌≡◌, ◌≢◌, ℕ, ◌+◌, ◌*◌, ◌<◌, List, length, [], ◌∷◌, take, drop, slice_index_or, Option, IsSome, IsSomeAnd}
+use Rattle.std.specs.Prelude.{◌≡◌, ◌≢◌, ℕ, ◌+◌, ◌*◌, ◌<◌, List, length, [], ◌∷◌, take, drop, slice_index_or, Option, Some, IsSome, IsSomeAnd}
 use Rattle.std.specs.Option.{option_map_or}
 
 -- The language of a command: its word, the options that words name, the values that they may say, and what these change.
@@ -23,10 +23,15 @@ word_at words place = slice_index_or words place []
 abbrev pub HasCommand : {C S : Type 0} → Language C S → List (List ℕ) → Type 0
 HasCommand language words = (0 < length words) × (word_at words 0 ≡ language.command)
 
--- a word names an option that no word before it names
+-- A word names an option that no name before it names. Names stand at the odd places.
 pub record NamesOption {C S : Type 0} (language : Language C S) (words : List (List ℕ)) (place : ℕ) : Type 0 where
   pub named : IsSome (language.named (word_at words place))
-  pub first : (before : ℕ) → before < place → word_at words before ≢ word_at words place
+  pub first : (k : ℕ) → 2 * k + 1 < place → language.named (word_at words (2 * k + 1)) ≢ language.named (word_at words place)
+
+-- a name before a place names this option
+abbrev pub IsNamedBefore : {C S : Type 0} → Language C S → List (List ℕ) → ℕ → C → Type 0
+IsNamedBefore language words place option =
+    (k : ℕ) × (2 * k + 1 < place) × (language.named (word_at words (2 * k + 1)) ≡ Some option)
 
 -- a word names an option, and a word that stands after it says a value of this option
 pub record SaysValue {C S : Type 0} (language : Language C S) (words : List (List ℕ)) (place : ℕ) : Type 0 where

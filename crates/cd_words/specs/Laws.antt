@@ -10,7 +10,7 @@ use Rattle.cd_words.specs.CommandLines.{Language, IsCommandLine, BreaksAt}
 abbrev pub NumbersAreDecimal : Type 0
 NumbersAreDecimal = (text : List ℕ) (n : ℕ) → n < 2 ^ 64 → (number_of text ≡ Some n) ↔ (text ≡ decimal n)
 
--- the word of an option names it and no other
+-- the word of each option names this option
 abbrev pub OptionsHaveNames : Type 0
 OptionsHaveNames = (option : CompactOption) → option_named (word_of option) ≡ Some option
 

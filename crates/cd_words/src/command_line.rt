@@ -1,9 +1,8 @@
 //! A command line of any command.
 
-ghost use Rattle.std.specs.Prelude.{◌≡◌, ◌<◌, ◌↔◌, IsTrue, length, Some, MatchOption, IfOk, IfErr};
-ghost use Rattle.std.specs.List.{list_any};
-ghost use Rattle.std.specs.Str.{bytes_eq};
-ghost use Rattle.cd_words.specs.CommandLines.{word_at, HasCommand, NamesOption, IsCommandLine, settings_of};
+ghost use Rattle.std.specs.Prelude.{◌≡◌, ◌<◌, ◌≤◌, ◌↔◌, IsTrue, length, Some, MatchOption, IfOk, IfErr};
+ghost use Rattle.std.specs.Bool.{Decides, MatchBool};
+ghost use Rattle.cd_words.specs.CommandLines.{word_at, HasCommand, IsNamedBefore, NamesOption, IsCommandLine, settings_of};
 ghost use Rattle.cd_words.specs.Faults.{HasFaultIn};
 
 use crate::fault::WordsFault;
@@ -21,24 +20,47 @@ pub fn begins_with(words: &[Blob], command: &[u8]) -> bool
     }
 }
 
-// Whether a word is one of some words.
-fn is_among(words: &[Blob], word: &[u8]) -> bool
-    ensures { result ≡ list_any (λ other. bytes_eq other word.now) words.now }
+// Whether a word names an option.
+fn names<O: CommandOption>(word: &[u8], option: O) -> bool
+    ensures { Decides result (O.language.named word.now ≡ Some option) }
 {
-    words.iter().any(|other| other.as_slice() == word)
+    match O::named(word) {
+        Some(other) => other.is_same(option),
+        None => false,
+    }
 }
 
-// The option that a word names, if no word before it does.
+// Whether a name before a place names an option. Names stand at the odd places.
+fn is_named_before<O: CommandOption>(words: &[Blob], place: usize, option: O) -> bool
+    requires { place ≤ length words.now }
+    ensures { MatchBool result (IsNamedBefore O.language words.now place option)
+        (¬ (IsNamedBefore O.language words.now place option)) }
+{
+    let mut before = 1;
+    'names: while before < place {
+        let word = words[before].as_slice();
+        if names::<O>(word, option) {
+            return true;
+        }
+        before += 2;
+    }
+    false
+}
+
+// The option that a word names, if no name before it does.
 fn option_at<O: CommandOption>(words: &[Blob], place: usize) -> Option<O>
     requires { place < length words.now }
     ensures { MatchOption result (¬ (NamesOption O.language words.now place))
         (λ option. NamesOption O.language words.now place × (O.language.named (word_at words.now place) ≡ Some option)) }
 {
     let word = words[place].as_slice();
-    if is_among(&words[..place], word) {
+    let Some(option) = O::named(word) else {
+        return None;
+    };
+    if is_named_before(words, place, option) {
         return None;
     }
-    O::named(word)
+    Some(option)
 }
 
 /// The settings that the options say, after the command.

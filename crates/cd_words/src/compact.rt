@@ -1,6 +1,6 @@
 //! The language of `compact`.
 
-ghost use Rattle.std.specs.Prelude.{◌≡◌, IfOk, OnOk};
+ghost use Rattle.std.specs.Prelude.{◌≡◌, false, IfOk, OnOk};
 ghost use Rattle.std.specs.Bool.{MatchBool};
 ghost use Rattle.cd_hints.specs.Validity.{IsValid};
 ghost use Rattle.cd_words.specs.Options.{Says};
@@ -24,6 +24,7 @@ fn put(
     ensures value { IfOk result (λ says. MatchBool says
         (Says option word.now × (settings.new ≡ with_value option word.now settings.old))
         (¬ (Says option word.now))) }
+    ensures unchanged { IfOk result (λ says. says ≡ false → settings.new ≡ settings.old) }
     ensures valid { IsValid settings.old → OnOk result (IsValid settings.new) }
 {
     match option {
@@ -57,6 +58,10 @@ impl CommandOption for CompactOption {
 
     fn named(word: &[u8]) -> Option<CompactOption> {
         named(word)
+    }
+
+    fn is_same(self, other: CompactOption) -> bool {
+        self == other
     }
 
     fn put(self, alloc: Global, settings: &mut Settings, word: &[u8]) -> Result<bool, AllocError> {

@@ -1,7 +1,7 @@
 //! The language of a command, as its options tell it.
 
-ghost use Rattle.std.specs.Prelude.{◌≡◌, IfOk, OnOk};
-ghost use Rattle.std.specs.Bool.{MatchBool};
+ghost use Rattle.std.specs.Prelude.{◌≡◌, false, IfOk, OnOk};
+ghost use Rattle.std.specs.Bool.{Decides, MatchBool};
 ghost use Rattle.cd_words.specs.CommandLines.{Language};
 
 use std::alloc::{AllocError, Global};
@@ -24,6 +24,10 @@ pub trait CommandOption: Copy {
     fn named(word: &[u8]) -> Option<Self>
         ensures { result ≡ language.named word.now };
 
+    /// Whether two options are the same.
+    fn is_same(self, other: Self) -> bool
+        ensures { Decides result (self ≡ other) };
+
     /// Gives the option the value that a word says, and tells whether it says one. Where it says none, nothing changes.
     /// An `Err` is for want of memory.
     fn put(
@@ -35,5 +39,6 @@ pub trait CommandOption: Copy {
         ensures value { IfOk result (λ says. MatchBool says
             (language.Says self word.now × (settings.new ≡ language.with_value self word.now settings.old))
             (¬ (language.Says self word.now))) }
+        ensures unchanged { IfOk result (λ says. says ≡ false → settings.new ≡ settings.old) }
         ensures valid { is_valid settings.old → OnOk result (is_valid settings.new) };
 }

@@ -8,7 +8,7 @@ pub fn numbers_are_decimal()
     ensures { NumbersAreDecimal }
 {}
 
-/// A law: the word of an option names it and no other. It does nothing.
+/// A law: the word of each option names this option. It does nothing.
 pub fn options_have_names()
     ensures { OptionsHaveNames }
 {}

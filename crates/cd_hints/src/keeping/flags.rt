@@ -94,10 +94,7 @@ fn is_dnssec_ok(query: &Message, opt: Option<OptRef>) -> bool
     requires { option_map opt_seen opt ≡ opt_of_message query.now }
     ensures { result ≡ Flags.is_dnssec_ok query.now }
 {
-    match opt {
-        Some(opt) => opt.dnssec_ok,
-        None => false,
-    }
+    opt.is_some_and(|opt| opt.dnssec_ok)
 }
 
 // The DNS flags of a query with this OPT record.

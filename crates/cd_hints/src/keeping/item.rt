@@ -53,30 +53,21 @@ fn lead_question(rec: &Rec) -> Option<&Question>
 fn transaction_id(message: Option<&Message>) -> Option<u16>
     ensures { result ≡ option_map (λ m. m.id) (option_copied message.entry) }
 {
-    match message {
-        Some(message) => Some(message.id),
-        None => None,
-    }
+    message.map(|message| message.id)
 }
 
 // The time to live or hop limit of an event's packet.
 fn hop_limit(event: Option<&Event>) -> Option<u8>
     ensures { result ≡ option_map (λ e. e.hop) (option_map (λ e. parts_of e.now) event.entry) }
 {
-    match event {
-        Some(event) => Some(event.hop),
-        None => None,
-    }
+    event.map(|event| event.hop)
 }
 
 // The bytes of an event's payload.
 fn payload_size(event: Option<&Event>) -> Option<u64>
     ensures { result ≡ option_map (λ e. e.size) (option_map (λ e. parts_of e.now) event.entry) }
 {
-    match event {
-        Some(event) => Some(u64::from(event.size)),
-        None => None,
-    }
+    event.map(|event| u64::from(event.size))
 }
 
 // Ticks from the query to the response of a pair.

@@ -41,40 +41,28 @@ fn opt_in(message: Option<&Message>) -> Option<OptRef<'_>>
 fn edns_version(opt: Option<OptRef>) -> Option<u8>
     ensures { result ≡ option_map (λ o. o.version) (option_map opt_seen opt.entry) }
 {
-    match opt {
-        Some(opt) => Some(opt.version),
-        None => None,
-    }
+    opt.map(|opt| opt.version)
 }
 
 // The bytes of the largest UDP payload that the sender takes.
 fn udp_size(opt: Option<OptRef>) -> Option<u16>
     ensures { result ≡ option_map (λ o. o.udp_size) (option_map opt_seen opt.entry) }
 {
-    match opt {
-        Some(opt) => Some(opt.udp_size),
-        None => None,
-    }
+    opt.map(|opt| opt.udp_size)
 }
 
 // The opcode of a message.
 fn opcode(message: Option<&Message>) -> Option<u8>
     ensures { result ≡ option_map (λ m. Headers.opcode_of m.bits) (option_copied message.entry) }
 {
-    match message {
-        Some(message) => Some(opcode_of(message.bits)),
-        None => None,
-    }
+    message.map(|message| opcode_of(message.bits))
 }
 
 // The high eight bits of an RCODE, which stand in the OPT record, if there is one.
 fn ext_rcode(opt: Option<OptRef>) -> u8
     ensures { result ≡ option_map_or (λ o. o.ext_rcode) (option_map opt_seen opt.entry) 0 }
 {
-    match opt {
-        Some(opt) => opt.ext_rcode,
-        None => 0,
-    }
+    opt.map_or(0, |opt| opt.ext_rcode)
 }
 
 // The RCODE of twelve bits of a message with this OPT record (RFC 6891 6.1.3).
