@@ -1,12 +1,13 @@
 -- The pairs of those values that are there.
 use Rattle.std.proofs.Common.{◌≡◌, ℕ, ◌+◌, List, [], ◌∷◌, ◌++◌, length, Option, Some, None, refl, ap, ◌∙◌, length-append, count_by, is_some, map, cond, arith}
 use Rattle.std.proofs.lemmas.List.Elements.{filter_map-append}
+use Rattle.std.proofs.lemmas.Grind.{common_steps}
 use Rattle.std.proofs.lemmas.List.{length-map}
 use Rattle.std.proofs.lemmas.List.Sums.{sum_by-cons}
 use Rattle.cd_cbor.specs.declared.item.Item.{Item}
 use Rattle.cd_cbor.specs.Spelling.{head, spelling, spelling_pairs}
 use Rattle.cd_cbor.specs.Items.{unsigned, entries, entry_of, present}
-use Rattle.cd_cbor.specs.Integers.{integer_item, integer_entry, number_entry}
+use Rattle.cd_cbor.specs.Integers.{integer_entry, number_entry}
 use Rattle.cd_cbor.specs.declared.integer.Integer.{Integer}
 use Rattle.cd_cbor.proofs.Spelled.{spelling_pairs_append, spelling_entries}
 
@@ -42,6 +43,9 @@ spelling_present_append es fs = ap spelling_pairs (present_append es fs) ∙ spe
 pub spelling_present_cons : (entry : ℕ × Option Item) (es : List (ℕ × Option Item)) →
     spelling_pairs (present (entry ∷ es)) ≡ spelling_pairs (present (entry ∷ [])) ++ spelling_pairs (present es)
 spelling_present_cons entry es = spelling_present_append (entry ∷ []) es
+
+-- the laws of a loop over entries
+pub ruleset entry_laws = (common_steps, spelling_present_cons, present_nil)
 
 -- how many integers are there
 pub present_count_is : (es : List (ℕ × Option Integer)) → length (present (map integer_entry es)) ≡ count_by (λ e. is_some e.1) es

@@ -55,10 +55,10 @@ pub fn present_count(fields: &[(u64, Option<Integer>)]) -> u64
     fields.iter().filter(|field| field.1.is_some()).count() as u64
 }
 
-/// Writes the keys of those integers that are there, each before its integer, in their order and with no head. It is for a
-/// map that goes on with other values, whose head counts these by `present_count`. An `Err` is for want of memory, and may
-/// write a front of it.
-#[tactic(auto, using(std::proofs::lemmas::Grind::common_steps, crate::proofs::Present::spelling_present_cons, crate::proofs::Present::present_nil))]
+/// Writes the keys of those integers that are there, each before its integer, in their order and with no head. It is
+/// for a map that goes on with other values, whose head counts these by `present_count`. An `Err` is for want of
+/// memory, and may write a front of it.
+#[tactic(auto, using(crate::proofs::Present::entry_laws))]
 pub fn push_entries(out: &mut Out, fields: &[(u64, Option<Integer>)]) -> Result<(), AllocError>
     ensures { OnOk result (out.new
         ≡ out.old ++ spelling_pairs (present (map integer_entry fields.now))) }
@@ -69,8 +69,8 @@ pub fn push_entries(out: &mut Out, fields: &[(u64, Option<Integer>)]) -> Result<
     Ok(())
 }
 
-/// Writes a map of the keys whose integers are there, and of these, in their order. An `Err` is for want of memory, and may
-/// write a front of it.
+/// Writes a map of the keys whose integers are there, and of these, in their order. An `Err` is for want of memory,
+/// and may write a front of it.
 #[tactic(auto, using(std::proofs::lemmas::List::append_assoc, crate::proofs::Spelled::spelling_entries))]
 pub fn push_present(out: &mut Out, fields: &[(u64, Option<Integer>)]) -> Result<(), AllocError>
     ensures { OnOk result (out.new
