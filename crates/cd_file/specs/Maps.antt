@@ -1,0 +1,30 @@
+-- Maps and arrays of which parts may be absent (RFC 8949 3.1).
+use Rattle.std.specs.Prelude.{ℕ, List, [], ◌∷◌, map, Option, None, Some}
+use Rattle.std.specs.Option.{option_map}
+use Rattle.cd_cbor.specs.Items.{Item, unsigned, array, entries, present}
+
+-- a map of the values that are there
+abbrev pub map_of : List (ℕ × Option Item) → Item
+map_of es = entries (present es)
+
+-- a map of these entries, absent where there is none
+abbrev pub where_any : List (Item × Item) → Option Item
+where_any [] = None
+where_any (e ∷ es) = Some (entries (e ∷ es))
+
+-- a map of the values that are there, absent where none is
+abbrev pub optional_map : List (ℕ × Option Item) → Option Item
+optional_map es = where_any (present es)
+
+-- an array of these items, absent where there is none
+abbrev pub optional_array : List Item → Option Item
+optional_array [] = None
+optional_array (i ∷ is) = Some (array (i ∷ is))
+
+-- a number, where it is there
+abbrev pub number : Option ℕ → Option Item
+number = option_map unsigned
+
+-- an array of numbers
+abbrev pub numbers : List ℕ → Item
+numbers ns = array (map unsigned ns)
