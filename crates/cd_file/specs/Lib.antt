@@ -1,3 +1,4 @@
+pub mod Arrays
 pub mod Maps
 pub mod Head
 pub mod Tables

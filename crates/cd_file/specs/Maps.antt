@@ -1,7 +1,8 @@
 -- Maps and arrays of which parts may be absent (RFC 8949 3.1).
-use Rattle.std.specs.Prelude.{ℕ, List, [], ◌∷◌, map, Option, None, Some}
+use Rattle.std.specs.Prelude.{ℕ, ◌+◌, List, [], ◌∷◌, ◌++◌, map, Option, None, Some}
 use Rattle.std.specs.Option.{option_map}
 use Rattle.cd_cbor.specs.Items.{Item, unsigned, array, entries, present}
+use Rattle.cd_cbor.specs.Spelling.{spelling}
 
 -- a map of the values that are there
 abbrev pub map_of : List (ℕ × Option Item) → Item
@@ -28,3 +29,27 @@ number = option_map unsigned
 -- an array of numbers
 abbrev pub numbers : List ℕ → Item
 numbers ns = array (map unsigned ns)
+
+-- a key and its number, where it is there
+abbrev pub number_entry : ℕ × Option ℕ → ℕ × Option Item
+number_entry e = (e.0, number e.1)
+
+-- 1 for a value that is there, else 0
+abbrev pub there : Option Item → ℕ
+there None = 0
+there (Some i) = 1
+
+-- how many values are there
+abbrev pub entries_count : List (ℕ × Option Item) → ℕ
+entries_count [] = 0
+entries_count (e ∷ es) = there e.1 + entries_count es
+
+-- the spelling of a key and its value, where it is there
+abbrev pub entry_spelling : ℕ → Option Item → List ℕ
+entry_spelling key None = []
+entry_spelling key (Some i) = spelling (unsigned key) ++ spelling i
+
+-- the spelling of these entries, without the head of their map
+abbrev pub entries_spelling : List (ℕ × Option Item) → List ℕ
+entries_spelling [] = []
+entries_spelling (e ∷ es) = entry_spelling e.0 e.1 ++ entries_spelling es

@@ -63,9 +63,9 @@ malformed_data_item d = map_of (
     ∷ (key.MALFORMED_DATA_PAYLOAD, option_map bytes d.payload)
     ∷ [])
 
--- the tables that have a value, absent where none has one (RFC 8618 7.3.2.3)
-abbrev pub tables_item : Block → Option Item
-tables_item b = optional_map (
+-- the tables of a block, each absent where it has no value
+abbrev pub table_entries : Block → List (ℕ × Option Item)
+table_entries b =
     (key.TABLES_IP_ADDRESS, optional_array (map bytes b.ip_address))
     ∷ (key.TABLES_CLASSTYPE, optional_array (map classtype_item b.classtype))
     ∷ (key.TABLES_NAME_RDATA, optional_array (map bytes b.name_rdata))
@@ -75,4 +75,8 @@ tables_item b = optional_map (
     ∷ (key.TABLES_RRLIST, optional_array (map numbers b.rrlist))
     ∷ (key.TABLES_RR, optional_array (map rr_item b.rr))
     ∷ (key.TABLES_MALFORMED_MESSAGE_DATA, optional_array (map malformed_data_item b.malformed_message_data))
-    ∷ [])
+    ∷ []
+
+-- the map of tables, absent where no table has a value (RFC 8618 7.3.2.3)
+abbrev pub tables_item : Block → Option Item
+tables_item b = optional_map (table_entries b)

@@ -2,5 +2,7 @@
 #![tactic(auto)]
 
 mod ends;
+mod entries;
+mod spelled;
 
 pub use ends::end_bytes;
