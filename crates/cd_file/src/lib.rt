@@ -4,5 +4,6 @@
 mod ends;
 mod entries;
 mod spelled;
+mod tables;
 
 pub use ends::end_bytes;
