@@ -1,0 +1,4 @@
+pub mod MajorTypes
+pub mod Spelling
+pub mod Items
+pub mod Integers
