@@ -1,3 +1,2 @@
-pub mod Growing
 pub mod Maps
-pub mod Arrays
+pub mod Numbers

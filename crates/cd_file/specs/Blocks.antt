@@ -1,7 +1,9 @@
 -- A block with its items (RFC 8618 7.3.2).
-use Rattle.std.specs.Prelude.{ℕ, ℤ, pos, negsuc, List, [], ◌∷◌, map, Option, Some}
+use Rattle.std.specs.Prelude.{ℕ, List, [], ◌∷◌, map, Option, Some}
 use Rattle.std.specs.Option.{option_map}
-use Rattle.cd_cbor.specs.Items.{Item, unsigned, negative}
+use Rattle.cd_cbor.specs.declared.item.Item.{Item}
+use Rattle.cd_cbor.specs.Items.{unsigned}
+use Rattle.cd_cbor.specs.Integers.{signed}
 use Rattle.cd_file.specs.Maps.{map_of, optional_map, optional_array, number, numbers}
 use Rattle.cd_file.specs.Tables.{tables_item}
 use Rattle.cd_block.specs.declared.block.Block.{Block}
@@ -33,19 +35,18 @@ statistics_item s = map_of (
     ∷ (key.STATISTICS_MALFORMED, Some (unsigned s.malformed))
     ∷ [])
 
--- a number that may be below 0
-abbrev pub integer : ℤ → Item
-integer (pos n) = unsigned n
-integer (negsuc n) = negative n
-
--- the extended part of a query or a response, absent where it has no list (RFC 8618 7.3.2.4.2)
-abbrev pub extended_item : BlockLists → Option Item
-extended_item l = optional_map (
+-- the lists of the extended part of a query or a response (RFC 8618 7.3.2.4.2)
+abbrev pub extended_entries : BlockLists → List (ℕ × Option Item)
+extended_entries l =
     (key.EXTENDED_QUESTION, number l.question)
     ∷ (key.EXTENDED_ANSWER, number l.answer)
     ∷ (key.EXTENDED_AUTHORITY, number l.authority)
     ∷ (key.EXTENDED_ADDITIONAL, number l.additional)
-    ∷ [])
+    ∷ []
+
+-- the extended part of a query or a response, absent where it has no list (RFC 8618 7.3.2.4.2)
+abbrev pub extended_item : BlockLists → Option Item
+extended_item l = optional_map (extended_entries l)
 
 -- a query-response item (RFC 8618 7.3.2.4)
 abbrev pub query_response_item : BlockItem → Item
@@ -56,7 +57,7 @@ query_response_item i = map_of (
     ∷ (key.ITEM_TRANSACTION_ID, number i.transaction_id)
     ∷ (key.ITEM_SIGNATURE, number i.signature)
     ∷ (key.ITEM_CLIENT_HOPLIMIT, number i.client_hoplimit)
-    ∷ (key.ITEM_RESPONSE_DELAY, option_map integer i.response_delay)
+    ∷ (key.ITEM_RESPONSE_DELAY, option_map signed i.response_delay)
     ∷ (key.ITEM_QUERY_NAME, number i.query_name)
     ∷ (key.ITEM_QUERY_SIZE, number i.query_size)
     ∷ (key.ITEM_RESPONSE_SIZE, number i.response_size)

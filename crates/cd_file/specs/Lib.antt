@@ -1,4 +1,3 @@
-pub mod Arrays
 pub mod Maps
 pub mod Head
 pub mod Tables

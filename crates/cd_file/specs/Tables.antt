@@ -1,7 +1,8 @@
 -- The tables of a block (RFC 8618 7.3.2.3).
 use Rattle.std.specs.Prelude.{ℕ, List, [], ◌∷◌, map, Option, Some}
 use Rattle.std.specs.Option.{option_map}
-use Rattle.cd_cbor.specs.Items.{Item, unsigned, bytes}
+use Rattle.cd_cbor.specs.declared.item.Item.{Item}
+use Rattle.cd_cbor.specs.Items.{unsigned, bytes}
 use Rattle.cd_file.specs.Maps.{map_of, optional_map, optional_array, number, numbers}
 use Rattle.cd_block.specs.declared.block.Block.{Block}
 use Rattle.cd_block.specs.declared.block.BlockData.{BlockData}

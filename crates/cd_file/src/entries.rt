@@ -54,6 +54,7 @@ pub fn present_count(entries: &[Entry]) -> u64
 }
 
 /// Writes a key and its number, where it is there.
+#[tactic(auto, using(std::proofs::lemmas::List::append_assoc), unfolding(crate::specs::Maps::entry_spelling))]
 pub fn push_entry(out: &mut Out, key: u64, value: Option<u64>) -> Result<(), AllocError>
     ensures { OnOk result (out.new ≡ out.old ++ entry_spelling key (number value)) }
 {

@@ -1,8 +1,11 @@
 use Rattle.std.proofs.Common.{None}
+use Rattle.cd_cbor.proofs.Spelled.{grown}
 use Rattle.cd_file.specs.Maps.{number_entry}
-use Rattle.cd_file.proofs.Growing.{grown}
-use Rattle.cd_file.proofs.Maps.{entries_spelling_more}
+use Rattle.cd_file.proofs.Maps.{entries_begun, entries_spelling_more}
 use Rattle.cd_file.proofs.entries.push_entries.Goals as goal
+
+pub entries-init : goal.entries-init
+entries-init c = entries_begun _
 
 pub entries-preserved : goal.entries-preserved
 entries-preserved c =

@@ -10,4 +10,4 @@ returns-then-present_count-eq0 c =
 pub returns : goal.returns
 returns c =
     let some : 0 < entries_count (map number_entry c.args.entries.now) = omega (arith, c.present_count.ensures.exact) in
-    map_added _ _ _ c.args.key (map number_entry c.args.entries.now) some c.in_ok-push_unsigned.ensures c.in_ok-push_map.ensures
+    map_added _ _ _ c.args.key (map number_entry c.args.entries.now) some c.in_ok-push_unsigned.ensures.ok c.in_ok-push_map.ensures
