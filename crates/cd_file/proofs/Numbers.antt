@@ -1,7 +1,6 @@
 -- How an array of numbers is written.
 use Rattle.std.proofs.Common.{◌≡◌, ℕ, zero, suc, ◌+◌, List, [], ◌∷◌, ◌++◌, length, map, refl, ap, sym, ◌∙◌, arith, append_assoc, length-append, add-one}
-use Rattle.std.proofs.lemmas.List.{append-nil, length-map}
-use Rattle.std.proofs.lemmas.List.Elements.{map-append}
+use Rattle.std.proofs.lemmas.List.{append-nil, length-map, map-append}
 use Rattle.cd_cbor.specs.declared.item.Item.{Item}
 use Rattle.cd_cbor.specs.Items.{unsigned, array}
 use Rattle.cd_cbor.specs.Spelling.{head, spelling, spelling_all}
@@ -55,3 +54,8 @@ opcodes_spelling_more n opcodes =
     ap (λ ns. spelling_all (map unsigned ns)) (opcodes_below_more n opcodes)
     ∙ ap spelling_all (map-append unsigned (opcodes_below n opcodes) (listed_opcode opcodes n))
     ∙ spelling_all_append (map unsigned (opcodes_below n opcodes)) (map unsigned (listed_opcode opcodes n))
+
+-- no number is nothing
+pub numbers_begun : (start : List ℕ) (opcodes : ℕ) → start ≡ start ++ spelling_all (map unsigned (opcodes_below 0 opcodes))
+numbers_begun start opcodes =
+    sym (ap (λ ns. start ++ spelling_all (map unsigned ns)) (no_opcode_below opcodes) ∙ append-nil start)
