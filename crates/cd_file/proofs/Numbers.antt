@@ -21,8 +21,8 @@ pub two_written : (start first second next : List ℕ) (a b : ℕ) →
     next ≡ start ++ spelling (numbers (a ∷ b ∷ []))
 two_written start first second next a b begun one two =
     let both : next ≡ first ++ (spelling (unsigned a) ++ (spelling (unsigned b) ++ [])) =
-        two ∙ ap (λ t. t ++ spelling (unsigned b)) one ∙ append_assoc first (spelling (unsigned a)) (spelling (unsigned b))
-        ∙ ap (λ t. first ++ (spelling (unsigned a) ++ t)) (sym (append-nil (spelling (unsigned b)))) in
+    two ∙ ap (λ t. t ++ spelling (unsigned b)) one ∙ append_assoc first (spelling (unsigned a)) (spelling (unsigned b))
+    ∙ ap (λ t. first ++ (spelling (unsigned a) ++ t)) (sym (append-nil (spelling (unsigned b)))) in
     numbers_written start first next (a ∷ b ∷ []) 2 begun both refl
 
 -- an array of one item

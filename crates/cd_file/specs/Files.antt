@@ -21,6 +21,10 @@ block_spelling block = spelling (block_item block)
 abbrev pub file_end : List ℕ
 file_end = 0xff ∷ []
 
+-- a file of these parameters and blocks, whose array of blocks is still open
+unfoldable pub file_begun : Params → List Block → List ℕ
+file_begun params blocks = file_head params ++ concat (map block_spelling blocks)
+
 -- the file of these parameters and blocks
 unfoldable pub file_of : Params → List Block → List ℕ
-file_of params blocks = file_head params ++ (concat (map block_spelling blocks) ++ file_end)
+file_of params blocks = file_begun params blocks ++ file_end

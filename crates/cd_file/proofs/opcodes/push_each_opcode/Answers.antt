@@ -9,6 +9,6 @@ opcodes-init c = record { exact = numbers_begun _ c.args.opcodes; within = omega
 pub opcodes-preserved : goal.opcodes-preserved
 opcodes-preserved c = record {
   exact = grown _ _ _ _ _ _ c.opcodes.invariant.exact c.in_ok-push_listed.ensures
-    (opcodes_spelling_more c.opcodes.opcode c.args.opcodes);
+      (opcodes_spelling_more c.opcodes.opcode c.args.opcodes);
   within = omega arith;
 }
