@@ -1,0 +1,5 @@
+pub mod Maps
+pub mod Head
+pub mod Tables
+pub mod Blocks
+pub mod Files
