@@ -1,11 +1,11 @@
 -- What a window stands for after a push.
-use Rattle.std.proofs.Common.{◌≡◌, ℕ, zero, suc, ◌+◌, ◌-◌, ◌<◌, ◌≤◌, ◌⊎◌, inl, inr, Bool, true, false, not, ◌&&◌, ◌||◌, leb, ltb, max, List, [], ◌∷◌, ◌++◌, length, take, map, set, get_or, Option, Some, None, refl, ap, sym, ◌∙◌, subst, arith, length-set}
+use Rattle.std.proofs.Common.{◌≡◌, ℕ, zero, suc, ◌+◌, ◌-◌, ◌<◌, ◌≤◌, ◌⊎◌, inl, inr, Bool, true, false, not, ◌&&◌, ◌||◌, leb, ltb, max, List, [], ◌∷◌, ◌++◌, length, take, map, set, get_or, cond, Option, Some, None, refl, ap, sym, ◌∙◌, subst, arith, length-set}
 use Rattle.std.specs.Prelude.{slice_get, is_some}
 use Rattle.std.specs.List.{fold, sum_by}
 use Rattle.std.proofs.lemmas.Bool.{cases_lt, cases_eq, cases_Bool, true≢false}
 use Rattle.std.proofs.lemmas.Option.{none-some, get_or_from_slice_get, slice_get_within}
 use Rattle.std.proofs.lemmas.List.{length-map, length_push, map-append, take_all, take-append-le, take-set-le, get_or-map, get_or_append_left, get_or_push, get_or-set_same, get_or-set_other}
-use Rattle.std.proofs.lemmas.List.Sums.{fold-append}
+use Rattle.std.proofs.lemmas.List.Sums.{fold-append, sum_by_push}
 use Rattle.cd_pairing.specs.declared.keyed.TheConstants.{LEAST_WEIGHT}
 use Rattle.cd_pairing.specs.declared.keyed.Side.{Side}
 use Rattle.cd_pairing.specs.declared.keyed.Side.TheVariants.{Query, Response, Neither}
@@ -22,10 +22,11 @@ use Rattle.cd_pairing.proofs.Settling.{settled_grows}
 use Rattle.cd_window.specs.declared.released.Released.{Released}
 use Rattle.cd_window.specs.declared.released.Released.TheVariants.{Pair, One}
 use Rattle.cd_window.specs.declared.held.Held.{Held}
-use Rattle.cd_window.specs.Seen.{Seen, count_of, held_at, is_open, stamped}
+use Rattle.cd_window.specs.Seen.{Seen, count_of, held_at, is_open, stamped, weight_held}
 use Rattle.cd_window.specs.Pushes.{next_held, fits_next, NoneFitsBefore, JoinsAt, StaysAlone, IsPushed}
-use Rattle.cd_window.specs.History.{ArePushed, IsRecord, AreRecords, IsHeld, HoldsAt, StandsFor}
+use Rattle.cd_window.specs.History.{ArePushed, IsRecord, AreRecords, IsHeld, HoldsAt, StandsFor, events_in, weight_in}
 use Rattle.cd_window.specs.Laws.{PushesStand}
+use Rattle.cd_window.proofs.Counting.{same_sum}
 
 -- what was pushed stays where it is
 pub get_more : {E : Type 0} (xs ys : List E) (i : ℕ) (x : E) → slice_get xs i ≡ Some x → slice_get (xs ++ ys) i ≡ Some x
@@ -196,6 +197,10 @@ heavy_more events e H le i lt = elim (cases_lt i (length events)) [
   | inr x ↦ subst (λ (v : EventView). LEAST_WEIGHT ≤ v.weight) (sym (get_or_push events e no_event i (let l = length_push events e in omega arith))) le
 ]
 
+-- a number that asks nothing of the partner
+abbrev IsOfEvents : {E : Type 0} → (Option (Held E) → ℕ) → Type 0
+IsOfEvents {E} g = (h : Held E) (o : Option ℕ) → g (Some (record { event = h.event; clock = h.clock; weight_sum = h.weight_sum; partner = o })) ≡ g (Some h)
+
 -- what is left to show of a push: the partners then, and what is held
 record Grown {E : Type 0} (view : E → EventView) (w : Seen E) (e : E) (new : List (Option (Held E))) (pushed : List E) (p : List (Option ℕ)) : Type 0 where
   partners : List (Option ℕ)
@@ -203,6 +208,7 @@ record Grown {E : Type 0} (view : E → EventView) (w : Seen E) (e : E) (new : L
   count : length new ≡ length w.held + 1
   held : (k : ℕ) → k < length new → HoldsAt view (pushed ++ e ∷ []) partners w.first (w.first + k) (get_or new k None)
   popped_are : take w.first partners ≡ take w.first p
+  sums : (g : Option (Held E) → ℕ) → IsOfEvents g → sum_by g new ≡ sum_by g w.held + g (Some (next_held view w e None))
 
 grown_alone : {E : Type 0} (view : E → EventView) (w : Seen E) (e : E) (new : List (Option (Held E))) (pushed : List E) (popped : List (Released E)) (S : StandsFor view w pushed popped) → w.finished ≡ false → LEAST_WEIGHT ≤ (view e).weight →
     StaysAlone view w e new → Grown view w e new pushed S.partners
@@ -226,6 +232,7 @@ grown_alone {E} view w e new pushed popped S going le A =
           (subst (λ (m : ℕ). IsHeld view (pushed ++ e ∷ []) q w.first m (next_held view w e None)) (let c = S.count in omega arith) (new_held view w e pushed popped S q None (get_or_push p None None (length pushed) (total ∙ long)) (λ j z. absurd (none-some j z))))
       ]);
       popped_are = take-append-le w.first p (None ∷ []) (omega arith);
+      sums = λ g like. ap (sum_by g) A.new_is ∙ sum_by_push g w.held x;
     }
 
 -- what joins is held with its new partner
@@ -283,6 +290,9 @@ grown_joined {E} view w e new pushed popped S going le A =
           (subst (λ (m : ℕ). IsHeld view (pushed ++ e ∷ []) q w.first m (next_held view w e (Some i))) (omega arith) (new_held view w e pushed popped S q (Some i) (at_last p i (length pushed) size) (λ j z. let same : i ≡ j = cc in omega arith)))
       ]);
       popped_are = take-append-le w.first (set p i (Some (length pushed))) (Some i ∷ []) (rw length-set (omega arith)) ∙ take-set-le w.first p i (Some (length pushed)) (omega arith);
+      sums = λ g like. ap (sum_by g) A.new_is ∙ sum_by_push g xs x
+        ∙ ap (λ (m : ℕ). m + g x) (same_sum g w.held A.place (Some changed) None A.within (like A.was (Some (count_of w)) ∙ ap g (sym A.held)))
+        ∙ ap (λ (m : ℕ). sum_by g w.held + m) (like (next_held view w e None) (Some i));
     }
 
 stands : {E : Type 0} (view : E → EventView) (w : Seen E) (e : E) (new : Seen E) (pushed : List E) (popped : List (Released E)) (S : StandsFor view w pushed popped) → w.finished ≡ false → LEAST_WEIGHT ≤ (view e).weight →
@@ -301,6 +311,16 @@ stands {E} view w e new pushed popped S going le P G =
       held = subst (λ (f : ℕ). (k : ℕ) → k < length new.held → HoldsAt view (pushed ++ e ∷ []) G.partners f (f + k) (held_at new k)) (sym P.first) G.held;
       popped_are = subst (λ (f : ℕ). AreRecords view (pushed ++ e ∷ []) (records (take f G.partners)) popped) (sym P.first)
         (subst (λ (xs : List (Option ℕ)). AreRecords view (pushed ++ e ∷ []) (records xs) popped) (sym G.popped_are) (all_still_told view pushed (e ∷ []) (records (take w.first S.partners)) popped S.popped_are));
+      unpopped = record {
+        count = let s = G.sums (λ (x : Option (Held E)). cond (is_some x) 1 0) (λ h o. refl) in
+          let u = S.unpopped.count in
+          let l = length_push pushed e in
+          let goal : sum_by (λ (x : Option (Held E)). cond (is_some x) 1 0) new.held + sum_by events_in popped ≡ length (pushed ++ e ∷ []) = omega arith in goal;
+        weight = let s = G.sums (weight_held view) (λ h o. refl) in
+          let u = S.unpopped.weight in
+          let l : sum_by (λ x. x.weight) (map view (pushed ++ e ∷ [])) ≡ sum_by (λ x. x.weight) events + (view e).weight = ap (λ (xs : List EventView). sum_by (λ x. x.weight) xs) (sym all) ∙ sum_last events (view e) in
+          let goal : sum_by (weight_held view) new.held + sum_by (weight_in view) popped ≡ sum_by (λ x. x.weight) (map view (pushed ++ e ∷ [])) = omega arith in goal;
+      };
       settled = λ still i lt.
         let c = S.count in
         let f = P.first in

@@ -19,7 +19,7 @@ use Rattle.cd_window.proofs.Popping.{first_within, same_partners}
 use Rattle.cd_window.proofs.Pushing.{held_is, held_stamp, open_is}
 
 -- what the front says of itself is what is settled
-front_settled : {E : Type 0} (view : E → EventView) (w : Seen E) (pushed : List E) (popped : List (Released E)) (S : StandsFor view w pushed popped) → w.finished ≡ false → (h : Held E) → 0 < length w.held → held_at w 0 ≡ Some h →
+pub front_settled : {E : Type 0} (view : E → EventView) (w : Seen E) (pushed : List E) (popped : List (Released E)) (S : StandsFor view w pushed popped) → w.finished ≡ false → (h : Held E) → 0 < length w.held → held_at w 0 ≡ Some h →
     is_front_ready view w (Some h) ≡ is_settled w.windows (map view pushed) S.partners (w.first + 0)
 front_settled {E} view w pushed popped S going h lt e =
     let events : List EventView = map view pushed in

@@ -1,6 +1,7 @@
--- What a window stands for after a pop.
+-- What a window stands for after each step of a pop.
 use Rattle.std.proofs.Common.{◌≡◌, ℕ, zero, suc, ◌+◌, ◌-◌, ◌<◌, ◌≤◌, ◌⊎◌, inl, inr, Bool, true, false, not, ◌||◌, ltb, cond, List, [], ◌∷◌, ◌++◌, length, take, drop, map, set, get_or, Option, Some, None, refl, ap, sym, ◌∙◌, subst, arith, length-set, length-drop}
 use Rattle.std.specs.Prelude.{is_some, slice_get}
+use Rattle.std.specs.List.{sum_by}
 use Rattle.std.proofs.lemmas.Bool.{cases_lt, cases_eq, lt-ltb, le-ltb, true≢false, or_cases}
 use Rattle.std.proofs.lemmas.Option.{none-some}
 use Rattle.std.proofs.lemmas.List.{length-map, length-take-le, take_more, get_or-drop, get_or-set_same, get_or-set_other, append-nil}
@@ -12,8 +13,9 @@ use Rattle.cd_pairing.proofs.Records.{records-append}
 use Rattle.cd_window.specs.declared.released.Released.{Released}
 use Rattle.cd_window.specs.declared.released.Released.TheVariants.{Pair, One}
 use Rattle.cd_window.specs.declared.held.Held.{Held}
-use Rattle.cd_window.specs.Seen.{Seen, held_at}
-use Rattle.cd_window.specs.History.{IsRecord, AreRecords, IsHeld, HoldsAt, StandsFor}
+use Rattle.cd_window.specs.Seen.{Seen, held_at, weight_held}
+use Rattle.cd_window.specs.History.{IsRecord, AreRecords, IsHeld, HoldsAt, StandsFor, HeldIsUnpopped, events_in, weight_in}
+use Rattle.cd_window.proofs.Counting.{nothing_gone, one_gone, pair_gone}
 
 pub told_more : {E : Type 0} (view : E → EventView) (pushed : List E) (rs : List Record) (xs : List (Released E)) (r : Record) (x : Released E) → AreRecords view pushed rs xs → IsRecord view pushed r x → AreRecords view pushed (rs ++ r ∷ []) (xs ++ x ∷ [])
 told_more view pushed [] [] r x h t = (t, tt)
@@ -53,8 +55,8 @@ moved w rest = record w { first = w.first + 1; held = drop 1 rest }
 
 pub moves : {E : Type 0} (view : E → EventView) (w : Seen E) (rest : List (Option (Held E))) (pushed : List E) (popped popped' : List (Released E)) (S : StandsFor view w pushed popped) → 0 < length w.held → length rest ≡ length w.held →
     ((k : ℕ) → 0 < k → k < length w.held → HoldsAt view pushed S.partners (w.first + 1) (w.first + k) (get_or rest k None)) → AreRecords view pushed (records (take (w.first + 1) S.partners)) popped' →
-    (w.finished ≡ false → is_settled w.windows (map view pushed) S.partners w.first ≡ true) → StandsFor view (moved w rest) pushed popped'
-moves {E} view w rest pushed popped popped' S some long later told here =
+    (w.finished ≡ false → is_settled w.windows (map view pushed) S.partners w.first ≡ true) → HeldIsUnpopped view (moved w rest) pushed popped' → StandsFor view (moved w rest) pushed popped'
+moves {E} view w rest pushed popped popped' S some long later told here unpopped =
     let ld = length-drop 1 rest in
     record {
       partners = S.partners;
@@ -66,6 +68,7 @@ moves {E} view w rest pushed popped popped' S some long later told here =
       held = λ k lt. subst (HoldsAt view pushed S.partners (w.first + 1) (w.first + 1 + k)) (sym (get_or-drop 1 rest k None))
         (subst (λ (i : ℕ). HoldsAt view pushed S.partners (w.first + 1) i (get_or rest (1 + k) None)) (let e : w.first + (1 + k) ≡ w.first + 1 + k = omega arith in e) (later (1 + k) (omega arith) (omega arith)));
       popped_are = told;
+      unpopped = unpopped;
       settled = λ going i lt. elim (cases_lt i w.first) [
         | inl h ↦ S.settled going i h
         | inr h ↦ let e : w.first ≡ i = omega arith in subst (λ (x : ℕ). is_settled w.windows (map view pushed) S.partners x ≡ true) e (here going)
@@ -90,6 +93,10 @@ skips {E} view w pushed popped S some none =
       (subst (λ (rs : List Record). AreRecords view pushed rs popped) (sym (records_more p w.first (omega (arith, length-map pushed view)) ∙ ap (λ (o : Option ℕ). records (take w.first p) ++ records_from w.first (o ∷ [])) at
         ∙ ap (λ (rs : List Record). records (take w.first p) ++ rs) (no_record w.first was.0 before) ∙ append-nil (records (take w.first p)))) S.popped_are)
       (λ going. settled_paired _ (partner p w.first) _ was.0 at)
+      (record {
+        count = ap (λ (n : ℕ). n + sum_by events_in popped) (nothing_gone (λ (x : Option (Held E)). cond (is_some x) 1 0) w.held some none refl) ∙ S.unpopped.count;
+        weight = ap (λ (n : ℕ). n + sum_by (weight_in view) popped) (nothing_gone (weight_held view) w.held some none refl) ∙ S.unpopped.weight;
+      })
 
 -- a front that stands alone
 pub tells_one : {E : Type 0} (view : E → EventView) (w : Seen E) (h : Held E) (pushed : List E) (popped : List (Released E)) (S : StandsFor view w pushed popped) → 0 < length w.held → held_at w 0 ≡ Some h → h.partner ≡ None →
@@ -106,11 +113,16 @@ tells_one {E} view w h pushed popped S some here free settled =
       (subst (λ (rs : List Record). AreRecords view pushed rs (popped ++ One w.first h.event ∷ [])) (sym (records_more p w.first (omega (arith, length-map pushed view)) ∙ ap (λ (o : Option ℕ). records (take w.first p) ++ records_from w.first (o ∷ [])) at))
         (told_more view pushed (records (take w.first p)) popped (single w.first) (One w.first h.event) S.popped_are (refl, subst (λ (i : ℕ). slice_get pushed i ≡ Some h.event) z H.event)))
       settled
+      (record {
+        count = one_gone (λ (x : Option (Held E)). cond (is_some x) 1 0) events_in w.held h popped (One w.first h.event) (length pushed) some here refl S.unpopped.count;
+        weight = one_gone (weight_held view) (weight_in view) w.held h popped (One w.first h.event) (sum_by (λ x. x.weight) (map view pushed)) some here refl S.unpopped.weight;
+      })
 
 -- a front that stands with a later event, which is not held from then on
-pub tells_pair : {E : Type 0} (view : E → EventView) (w : Seen E) (h : Held E) (place : ℕ) (told : Released E) (pushed : List E) (popped : List (Released E)) (S : StandsFor view w pushed popped) → 0 < length w.held → place < length w.held → held_at w 0 ≡ Some h →
-    h.partner ≡ Some (w.first + place) → IsRecord view pushed (pair w.first (w.first + place)) told → StandsFor view (moved w (set w.held place None)) pushed (popped ++ told ∷ [])
-tells_pair {E} view w h place told pushed popped S some inside here paired is_told =
+pub tells_pair : {E : Type 0} (view : E → EventView) (w : Seen E) (h other : Held E) (place : ℕ) (told : Released E) (pushed : List E) (popped : List (Released E)) (S : StandsFor view w pushed popped) → 0 < length w.held → place < length w.held → held_at w 0 ≡ Some h →
+    held_at w place ≡ Some other → h.partner ≡ Some (w.first + place) → IsRecord view pushed (pair w.first (w.first + place)) told →
+    events_in told ≡ 2 → weight_in view told ≡ (view h.event).weight + (view other.event).weight → StandsFor view (moved w (set w.held place None)) pushed (popped ++ told ∷ [])
+tells_pair {E} view w h other place told pushed popped S some inside here there paired is_told two heavy =
     let p : List (Option ℕ) = S.partners in
     let c = S.count in
     let t = S.pairing.total in
@@ -132,3 +144,7 @@ tells_pair {E} view w h place told pushed popped S some inside here paired is_to
       (subst (λ (rs : List Record). AreRecords view pushed rs (popped ++ told ∷ [])) (sym (records_more p w.first (omega (arith, length-map pushed view)) ∙ ap (λ (o : Option ℕ). records (take w.first p) ++ records_from w.first (o ∷ [])) at ∙ ap (λ (rs : List Record). records (take w.first p) ++ rs) (one_pair w.first j later)))
         (told_more view pushed (records (take w.first p)) popped (pair w.first j) told S.popped_are is_told))
       (λ going. settled_paired _ (partner p w.first) _ j at)
+      (record {
+        count = pair_gone (λ (x : Option (Held E)). cond (is_some x) 1 0) events_in w.held h other place popped told (length pushed) some inside (λ z. omega arith) here there refl (sym two) S.unpopped.count;
+        weight = pair_gone (weight_held view) (weight_in view) w.held h other place popped told (sum_by (λ x. x.weight) (map view pushed)) some inside (λ z. omega arith) here there refl (sym heavy) S.unpopped.weight;
+      })

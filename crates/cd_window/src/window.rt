@@ -1,18 +1,19 @@
 ghost use Rattle.std.specs.Prelude.{◌≡◌, ◌<◌, ◌≤◌, ◌+◌, ◌^◌, true, false, List, [], ◌∷◌, ◌++◌};
-ghost use Rattle.std.specs.Prelude.{IfOk, OnOk, IfErr, OnErr, IsSome, Option, Some, None, length, map};
+ghost use Rattle.std.specs.Prelude.{IfOk, OnOk, IfErr, OnErr, Option, Some, None, length, map};
 ghost use Rattle.std.specs.List.{sum_by};
 ghost use Rattle.cd_pairing.specs.declared.keyed.TheConstants.{LEAST_WEIGHT};
 ghost use Rattle.cd_window.specs.declared.released.Released.{Released};
 ghost use Rattle.cd_window.specs.Seen.{empty_window, is_ready, held_count, held_weight};
 ghost use Rattle.cd_window.specs.Pushes.{IsPushed};
-ghost use Rattle.cd_window.specs.Pops.{in_order, IsPopped};
+ghost use Rattle.cd_window.specs.Pops.{IsPopped};
 ghost use Rattle.cd_window.specs.History.{StandsFor, listed, events_in, weight_in};
 
 use crate::Released;
 use crate::held::Held;
-use crate::places::{earliest_fit, set_partner, take_at, trim};
+use crate::places::{held_at, put, take_front, trim};
+use crate::released::{events_in, weight_in};
 use crate::stamps::{Stamp, is_settled};
-use cd_pairing::{Keyed, LEAST_WEIGHT, Side, Windows};
+use cd_pairing::{Keyed, Windows};
 use std::alloc::{AllocError, Global};
 use std::collections::VecDeque;
 use std::marker::Model;
@@ -62,35 +63,6 @@ impl<E: Keyed> Model for Window<E> {
     }) a.count a.weight };
 }
 
-// The event that a refused place was to hold.
-fn event_of<E>(refused: Option<Held<E>>) -> E
-    requires { IsSome refused }
-    ensures { (h : _) → refused ≡ Some h → result ≡ h.event }
-{
-    match refused {
-        Some(held) => held.event,
-        None => unreachable!(),
-    }
-}
-
-// A pair whose first event is at this position.
-fn in_order<E: Keyed>(lead: u64, one: E, other: E) -> Released<E>
-    ensures { result ≡ in_order (E.view one).side lead one other }
-{
-    match one.side() {
-        Side::Response => Released::Pair {
-            lead,
-            query: other,
-            response: one,
-        },
-        _ => Released::Pair {
-            lead,
-            query: one,
-            response: other,
-        },
-    }
-}
-
 impl<E: Keyed + Drop> Window<E> {
     /// A window that was given no event. `windows.count` is at least 1 and below 2^31. The only error is that memory runs
     /// out.
@@ -132,19 +104,9 @@ impl<E: Keyed + Drop> Window<E> {
             clock: self.clock.max(event.time()),
             weight_sum: self.weight_sum + event.weight(),
         };
-        let place = earliest_fit(&self.windows, self.first, &self.places, &event, next);
         let weight = event.weight();
-        let held = Held {
-            event,
-            clock: next.clock,
-            weight_sum: next.weight_sum,
-            partner: place.map(|k| self.first + k as u64),
-        };
-        if let Err(refused) = self.places.push_back(Some(held)) {
-            return Err(event_of(refused.value));
-        }
-        if let Some(k) = place {
-            set_partner(&mut self.places, k, next.index);
+        if let Err(refused) = put(&self.windows, self.first, &mut self.places, event, next) {
+            return Err(refused);
         }
         self.clock = next.clock;
         self.weight_sum = next.weight_sum;
@@ -164,23 +126,10 @@ impl<E: Keyed + Drop> Window<E> {
         if !self.ready() {
             return None;
         }
-        let lead = self.first;
-        let front = take_at(&mut self.places, 0)?;
-        self.count -= 1;
-        self.weight -= front.event.weight();
-        let record = match front.partner {
-            None => Released::One {
-                lead,
-                event: front.event,
-            },
-            Some(j) => {
-                let other = take_at(&mut self.places, (j - lead) as usize)?;
-                self.count -= 1;
-                self.weight -= other.event.weight();
-                in_order(lead, front.event, other.event)
-            }
-        };
+        let record = take_front(self.first, &mut self.places);
         self.first += trim(&mut self.places);
+        self.count -= events_in(&record);
+        self.weight -= weight_in(&record);
         Some(record)
     }
 
@@ -193,11 +142,9 @@ impl<E: Keyed + Drop> Window<E> {
             clock: self.clock,
             weight_sum: self.weight_sum,
         };
-        match self.places.front() {
-            Some(Some(held)) => {
-                self.finished || is_settled(&self.windows, now, self.first, held)
-            }
-            _ => false,
+        match held_at(&self.places, 0) {
+            Some(held) => self.finished || is_settled(&self.windows, now, self.first, held),
+            None => false,
         }
     }
 
