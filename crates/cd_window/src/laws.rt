@@ -1,6 +1,7 @@
 //! What holds of each window and each history that it stands for. Each law is the contract of a function that does nothing.
 
 ghost use Rattle.cd_window.specs.Laws.{PoppedIsReleased, FinishedTellsAll, DueIsPopped, PushesStand, PopsStand};
+ghost use Rattle.cd_window.specs.Laws.{WindowsCloseInOrder, OpenWereOpen};
 
 use cd_pairing::Keyed;
 
@@ -27,4 +28,14 @@ pub fn pushes_stand<E: Keyed>()
 /// What a window stands for after a pop.
 pub fn pops_stand<E: Keyed>()
     ensures { PopsStand E.view }
+{}
+
+/// Of two events of one side that are held, the window of the later one is open where that of the earlier one is.
+pub fn windows_close_in_order<E: Keyed>()
+    ensures { WindowsCloseInOrder E.view }
+{}
+
+/// Where a window is open after a push, the pushed event stands in it, and it was open before.
+pub fn open_windows_were_open<E: Keyed>()
+    ensures { OpenWereOpen E.view }
 {}
