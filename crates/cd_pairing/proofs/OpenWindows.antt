@@ -70,7 +70,7 @@ pub record OpenParts (windows : Windows) (events : List EventView) (i : ℕ) : T
   pub time : clock events (length events - 1) - clock events i ≤ timeout windows (event_at events i).side
   pub light : weight_sum events (length events - 1) - weight_sum events i + (event_at events i).weight + LEAST_WEIGHT ≤ windows.bytes
 
-opened : (windows : Windows) (events : List EventView) (i : ℕ) → length events - i < windows.count → clock events (length events - 1) - clock events i ≤ timeout windows (event_at events i).side →
+pub opened : (windows : Windows) (events : List EventView) (i : ℕ) → length events - i < windows.count → clock events (length events - 1) - clock events i ≤ timeout windows (event_at events i).side →
     weight_sum events (length events - 1) - weight_sum events i + (event_at events i).weight + LEAST_WEIGHT ≤ windows.bytes → is_window_open windows events i ≡ true
 unfolding is_window_open
 opened windows events i a b c = and_from _ _ (and_from _ _ (lt-ltb _ _ a) (le-leb _ _ b)) (le-leb _ _ c)
@@ -106,7 +106,7 @@ still_open windows events more i j heavy li lj inside h =
     let rise : weight_sum all i ≤ weight_sum all m = subst (λ (x : ℕ). weight_sum all i ≤ weight_sum all x) (let e : i + (m - i) ≡ m = omega arith in e) (weights_rise all i (m - i) (omega arith)) in
     opened windows events i (omega arith) (omega arith) (omega arith)
 
-open_parts : (windows : Windows) (events : List EventView) (i : ℕ) → is_window_open windows events i ≡ true → OpenParts windows events i
+pub open_parts : (windows : Windows) (events : List EventView) (i : ℕ) → is_window_open windows events i ≡ true → OpenParts windows events i
 unfolding is_window_open
 open_parts windows events i h =
     let outer = and_parts _ _ h in

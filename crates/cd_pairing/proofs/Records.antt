@@ -18,7 +18,7 @@ settled_step f i left k later true e low high =
     ]
 settled_step f i left k later false e low high = absurd (omega arith)
 
-settled_all : (f : ℕ → Bool) (left i k : ℕ) → i ≤ k → k < i + settled_count_from f i left → f k ≡ true
+pub settled_all : (f : ℕ → Bool) (left i k : ℕ) → i ≤ k → k < i + settled_count_from f i left → f k ≡ true
 settled_all f zero i k low high = absurd (omega arith)
 settled_all f (suc left) i k low high = settled_step f i left k (λ j a b. settled_all f left (suc i) j a b) (f i) refl low high
 
@@ -26,7 +26,7 @@ settled_le_at : (b : Bool) (left m : ℕ) → m ≤ left → cond b (1 + m) 0 �
 settled_le_at true left m h = omega arith
 settled_le_at false left m h = omega arith
 
-settled_le : (f : ℕ → Bool) (left i : ℕ) → settled_count_from f i left ≤ left
+pub settled_le : (f : ℕ → Bool) (left i : ℕ) → settled_count_from f i left ≤ left
 settled_le f zero i = omega arith
 settled_le f (suc left) i = settled_le_at (f i) left (settled_count_from f (suc i) left) (settled_le f left (suc i))
 
@@ -34,7 +34,7 @@ led : (b : Bool) (r : Record) (all front back : List Record) → all ≡ front +
 led true r all front back e = ap (λ (t : List Record). r ∷ t) e
 led false r all front back e = e
 
-records-append : (i : ℕ) (a b : List (Option ℕ)) → records_from i (a ++ b) ≡ records_from i a ++ records_from (i + length a) b
+pub records-append : (i : ℕ) (a b : List (Option ℕ)) → records_from i (a ++ b) ≡ records_from i a ++ records_from (i + length a) b
 records-append i [] b = let e : i ≡ i + 0 = omega arith in ap (λ (k : ℕ). records_from k b) e
 records-append i (None ∷ a) b =
     let e : suc i + length a ≡ i + suc (length a) = omega arith in
@@ -65,7 +65,7 @@ settled_least_at : (f : ℕ → Bool) (i left m : ℕ) → (b : Bool) → f i �
 settled_least_at f i left m true e all le = omega arith
 settled_least_at f i left m false e all le = absurd (true≢false (sym (all i (omega arith) (omega arith)) ∙ e))
 
-settled_least : (f : ℕ → Bool) (left i m : ℕ) → m ≤ left → ((j : ℕ) → i ≤ j → j < i + m → f j ≡ true) → m ≤ settled_count_from f i left
+pub settled_least : (f : ℕ → Bool) (left i m : ℕ) → m ≤ left → ((j : ℕ) → i ≤ j → j < i + m → f j ≡ true) → m ≤ settled_count_from f i left
 settled_least f left i zero le all = omega arith
 settled_least f zero i (suc m) le all = absurd (omega arith)
 settled_least f (suc left) i (suc m) le all =
@@ -81,7 +81,7 @@ count_grows windows events more p q heavy P Q =
     (λ j a b. settled_grows windows events more p q heavy P Q j (omega arith) (settled_all f (length events) 0 j (omega arith) (omega arith)))
 
 -- a front of the partners tells a front of the records
-front_told : (m : ℕ) (p q : List (Option ℕ)) → take m q ≡ take m p → BeginsWith (records_from 0 (take m p)) (records_from 0 q)
+pub front_told : (m : ℕ) (p q : List (Option ℕ)) → take m q ≡ take m p → BeginsWith (records_from 0 (take m p)) (records_from 0 q)
 front_told m p q e = record {
   rest = records_from (0 + length (take m q)) (drop m q);
   whole = ap (records_from 0) (sym (take-append-drop m q)) ∙ records-append 0 (take m q) (drop m q)
