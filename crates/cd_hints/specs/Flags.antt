@@ -14,7 +14,9 @@ flag_where test flag = if test then flag else 0
 
 -- The transport flags: the version of IP, the transport in the bits 1 to 4, and whether bytes stand after the query.
 abbrev pub transport_flags : EventParts → Bool → ℕ
-transport_flags e trailing = flag_where e.client.v6 flag.TRANSPORT_IPV6 + 2 * transport_of e.ids + flag_where trailing flag.TRANSPORT_TRAILING_BYTES
+transport_flags e trailing =
+    flag_where e.client.v6 flag.TRANSPORT_IPV6 + 2 * transport_of e.ids
+    + flag_where trailing flag.TRANSPORT_TRAILING_BYTES
 
 -- the message has an OPT record
 abbrev pub has_opt : Message → Bool
@@ -40,14 +42,15 @@ response_signature_flags m =
 
 -- the signature flags of a query and a response, of which one may be absent
 abbrev pub signature_flags : Option Message → Option Message → ℕ
-signature_flags query response = option_map_or query_signature_flags query 0 + option_map_or response_signature_flags response 0
+signature_flags query response =
+    option_map_or query_signature_flags query 0 + option_map_or response_signature_flags response 0
 
 -- the message has an OPT record with DO: its sender takes DNSSEC records (RFC 6891 6.1.4)
 abbrev pub is_dnssec_ok : Message → Bool
 is_dnssec_ok m = option_map_or (λ o. o.dnssec_ok) (opt_of_message m) false
 
--- The DNS flags of a query: in the second word of the header CD, AD, Z, RA, RD, TC and AA are the bits 4 to 10 (RFC 1035 4.1.1,
--- RFC 4035 3.1.6), and DO stands in the OPT record (RFC 6891 6.1.4).
+-- The DNS flags of a query: in the second word of the header CD, AD, Z, RA, RD, TC and AA are the bits 4 to 10 (RFC
+-- 1035 4.1.1, RFC 4035 3.1.6), and DO stands in the OPT record (RFC 6891 6.1.4).
 abbrev pub query_dns_flags : Message → ℕ
 query_dns_flags m =
     bit_at m.bits 4 * flag.DNS_QUERY_CD

@@ -1,5 +1,5 @@
--- What is kept of a record, field by field (RFC 8618 7.3.2.4, 7.3.2.3.2, 7.3.2.6). A field of an item or of its signature is there
--- exactly where its hint is set and it has a value; a malformed message is whole.
+-- What is kept of a record, field by field (RFC 8618 7.3.2.4, 7.3.2.3.2, 7.3.2.6). A field of an item or of its
+-- signature is there exactly where its hint is set and it has a value; a malformed message is whole.
 use Rattle.std.specs.Prelude.{ℕ, ◌-◌, pos, ◌-ℤ◌, ℤ, Bool, false, length, slice_get, Option, Some, None, option_and_then}
 use Rattle.std.specs.Option.{option_map, option_map_or, option_or}
 use Rattle.cd_block.specs.declared.hints.TheConstants as hint
@@ -19,7 +19,9 @@ use Rattle.cd_hints.specs.Addresses.{client_address, server_address}
 use Rattle.cd_hints.specs.Flags.{transport_flags, signature_flags, dns_flags}
 use Rattle.cd_hints.specs.Hinted.{kept}
 use Rattle.cd_hints.specs.Lists.{query_lists, response_lists, no_lists}
-use Rattle.cd_hints.specs.Records.{RecordParts, pair, unmatched_query, unmatched_response, malformed, discarded, main_event, query_of, response_of, event_message, query_message, response_message, payload_in}
+use Rattle.cd_hints.specs.Records.{RecordParts, pair, unmatched_query, unmatched_response, malformed, discarded}
+use Rattle.cd_hints.specs.Records.{main_event, query_of, response_of, event_message, query_message, response_message}
+use Rattle.cd_hints.specs.Records.{payload_in}
 use Rattle.cd_hints.specs.Ticks.{tick_of, stamp_tick}
 
 -- the first question of a message
@@ -28,7 +30,8 @@ first_question m = slice_get m.questions 0
 
 -- the lead question: the query's first one, or the response's first one where there is no query or it has none
 abbrev pub lead_question : RecordParts → Option Question
-lead_question r = option_or (option_and_then first_question (query_message r)) (option_and_then first_question (response_message r))
+lead_question r =
+    option_or (option_and_then first_question (query_message r)) (option_and_then first_question (response_message r))
 
 -- the query's OPT record
 abbrev pub query_opt : RecordParts → Option Opt
@@ -48,7 +51,8 @@ kept_signature p r = record {
   -- the server's address, cut to its prefix
   server_address = kept p.hints.sig hint.SIG_SERVER_ADDRESS (Some (server_address p.prefixes (main_event r).server));
   server_port = kept p.hints.sig hint.SIG_SERVER_PORT (Some (main_event r).server_port);
-  transport_flags = kept p.hints.sig hint.SIG_TRANSPORT_FLAGS (Some (transport_flags (main_event r) (is_query_trailing r)));
+  transport_flags = kept p.hints.sig hint.SIG_TRANSPORT_FLAGS
+      (Some (transport_flags (main_event r) (is_query_trailing r)));
   sig_flags = kept p.hints.sig hint.SIG_SIG_FLAGS (Some (signature_flags (query_message r) (response_message r)));
   opcode = kept p.hints.sig hint.SIG_OPCODE (option_map (λ m. opcode_of m.bits) (main_message r));
   dns_flags = kept p.hints.sig hint.SIG_DNS_FLAGS (Some (dns_flags (query_message r) (response_message r)));

@@ -39,11 +39,13 @@ without_opt records = filter (λ r. not (is_opt r)) records
 
 -- the second and later questions, where their hint is set
 abbrev pub kept_questions : Hints → List Question → List KeptQuestion
-kept_questions hints questions = if is_hinted hints.qr hint.QR_QUESTIONS then map kept_question (drop 1 questions) else []
+kept_questions hints questions =
+    if is_hinted hints.qr hint.QR_QUESTIONS then map kept_question (drop 1 questions) else []
 
 -- the resource records whose types are listed, in their order, where the hint of their list is set
 abbrev pub kept_records : Params → ℕ → List Rr → List KeptRr
-kept_records p hint records = if is_hinted p.hints.qr hint then map (kept_rr p.hints) (filter (is_listed_record p.rr_types) records) else []
+kept_records p hint records =
+    if is_hinted p.hints.qr hint then map (kept_rr p.hints) (filter (is_listed_record p.rr_types) records) else []
 
 -- the lists of a query; its OPT record is in its signature, and not here
 abbrev pub query_lists : Params → Message → KeptLists
@@ -71,14 +73,18 @@ no_lists = record { question = []; answer = []; authority = []; additional = [] 
 abbrev pub unlisted_count : List ℕ → List Rr → ℕ
 unlisted_count types records = count_by (λ r. not (is_listed_record types r)) records
 
--- the resource records of a query that are dropped for their type, whatever the hints are; its OPT record is none of them
+-- the resource records of a query that are dropped for their type, whatever the hints are; its OPT record is none of
+-- them
 abbrev pub query_dropped : List ℕ → Message → ℕ
-query_dropped types m = unlisted_count types m.answers + unlisted_count types m.authority + unlisted_count types (without_opt m.additional)
+query_dropped types m =
+    unlisted_count types m.answers + unlisted_count types m.authority + unlisted_count types (without_opt m.additional)
 
 -- the resource records of a response that are dropped for their type
 abbrev pub response_dropped : List ℕ → Message → ℕ
-response_dropped types m = unlisted_count types m.answers + unlisted_count types m.authority + unlisted_count types m.additional
+response_dropped types m =
+    unlisted_count types m.answers + unlisted_count types m.authority + unlisted_count types m.additional
 
 -- the resource records in the messages of a record of events that are dropped for their type
 abbrev pub dropped : List ℕ → RecordParts → ℕ
-dropped types r = option_map_or (query_dropped types) (query_message r) 0 + option_map_or (response_dropped types) (response_message r) 0
+dropped types r = option_map_or (query_dropped types) (query_message r) 0
+    + option_map_or (response_dropped types) (response_message r) 0

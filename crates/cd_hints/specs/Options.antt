@@ -3,7 +3,12 @@ use Rattle.std.specs.Prelude.{◌≡◌, ℕ, ◌≤◌, ◌⊎◌, ⊤, List, [
 use Rattle.std.specs.Int.{bit_at}
 use Rattle.cd_hints.specs.declared.settings.interval.Interval.{Interval}
 use Rattle.cd_hints.specs.declared.settings.options.NumberOption.{NumberOption}
-use Rattle.cd_hints.specs.declared.settings.options.NumberOption.TheVariants.{Workers, Ticks, QueryTimeout, SkewTimeout, Window, WindowBytes, BlockItems, BlockBytes, QrHints, SigHints, RrHints, OtherHints, ClientPrefix4, ClientPrefix6, ServerPrefix4, ServerPrefix6, Port, MaxInput}
+use Rattle.cd_hints.specs.declared.settings.options.NumberOption.TheVariants.{Workers, Ticks, QueryTimeout, SkewTimeout}
+use Rattle.cd_hints.specs.declared.settings.options.NumberOption.TheVariants.{Window, WindowBytes, BlockItems}
+use Rattle.cd_hints.specs.declared.settings.options.NumberOption.TheVariants.{BlockBytes, QrHints, SigHints, RrHints}
+use Rattle.cd_hints.specs.declared.settings.options.NumberOption.TheVariants.{OtherHints, ClientPrefix4, ClientPrefix6}
+use Rattle.cd_hints.specs.declared.settings.options.NumberOption.TheVariants.{ServerPrefix4, ServerPrefix6, Port}
+use Rattle.cd_hints.specs.declared.settings.options.NumberOption.TheVariants.{MaxInput}
 use Rattle.cd_hints.specs.declared.settings.options.ListOption.{ListOption}
 use Rattle.cd_hints.specs.declared.settings.options.ListOption.TheVariants.{Opcodes, RrTypes}
 
@@ -74,7 +79,8 @@ option_default ServerPrefix6 = 128
 option_default Port = 53
 option_default MaxInput = 281474976710656
 
--- what its range does not say of a number: ticks are microseconds or nanoseconds, and two hints have a bit that is never set
+-- what its range does not say of a number: ticks are microseconds or nanoseconds, and two hints have a bit that is
+-- never set
 abbrev pub IsAllowed : NumberOption → ℕ → Type 0
 IsAllowed Ticks n = (n ≡ 1000000) ⊎ (n ≡ 1000000000)
 IsAllowed QrHints n = bit_at n 10 ≡ 0

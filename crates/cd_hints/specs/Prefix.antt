@@ -1,5 +1,6 @@
 -- Prefixes of addresses.
-use Rattle.std.specs.Prelude.{◌≡◌, ℕ, ◌+◌, ◌-◌, ◌*◌, ◌/◌, ◌^◌, min, Bool, List, [], ◌∷◌, if◌then◌else◌, Option, None, unwrap_or, length}
+use Rattle.std.specs.Prelude.{◌≡◌, ℕ, ◌+◌, ◌-◌, ◌*◌, ◌/◌, ◌^◌, min, Bool, List, [], ◌∷◌, if◌then◌else◌, Option, None}
+use Rattle.std.specs.Prelude.{unwrap_or, length}
 use Rattle.cd_packet.specs.declared.address.Addr.{Addr}
 
 -- the first bits of a byte, as many as are given, and 0 after them

@@ -4,7 +4,12 @@ use Rattle.cd_block.specs.declared.hints.Hints.{Hints}
 use Rattle.cd_block.specs.declared.params.Params.{Params}
 use Rattle.cd_hints.specs.declared.settings.Settings.{Settings}
 use Rattle.cd_hints.specs.declared.settings.options.NumberOption.{NumberOption}
-use Rattle.cd_hints.specs.declared.settings.options.NumberOption.TheVariants.{Workers, Ticks, QueryTimeout, SkewTimeout, Window, WindowBytes, BlockItems, BlockBytes, QrHints, SigHints, RrHints, OtherHints, ClientPrefix4, ClientPrefix6, ServerPrefix4, ServerPrefix6, Port, MaxInput}
+use Rattle.cd_hints.specs.declared.settings.options.NumberOption.TheVariants.{Workers, Ticks, QueryTimeout, SkewTimeout}
+use Rattle.cd_hints.specs.declared.settings.options.NumberOption.TheVariants.{Window, WindowBytes, BlockItems}
+use Rattle.cd_hints.specs.declared.settings.options.NumberOption.TheVariants.{BlockBytes, QrHints, SigHints, RrHints}
+use Rattle.cd_hints.specs.declared.settings.options.NumberOption.TheVariants.{OtherHints, ClientPrefix4, ClientPrefix6}
+use Rattle.cd_hints.specs.declared.settings.options.NumberOption.TheVariants.{ServerPrefix4, ServerPrefix6, Port}
+use Rattle.cd_hints.specs.declared.settings.options.NumberOption.TheVariants.{MaxInput}
 use Rattle.cd_hints.specs.declared.settings.options.ListOption.TheVariants.{Opcodes, RrTypes}
 use Rattle.cd_hints.specs.Listing.{listed_types, listed_opcodes}
 use Rattle.cd_hints.specs.Options.{option_range, option_default, list_default}
@@ -31,8 +36,10 @@ default_params = record {
   opcodes = listed_opcodes (list_default Opcodes);
   rr_types = listed_types (list_default RrTypes);
   flags = 0;
-  prefixes = stored_prefix ClientPrefix4 (option_default ClientPrefix4) ∷ stored_prefix ClientPrefix6 (option_default ClientPrefix6) ∷
-      stored_prefix ServerPrefix4 (option_default ServerPrefix4) ∷ stored_prefix ServerPrefix6 (option_default ServerPrefix6) ∷ [];
+  prefixes = stored_prefix ClientPrefix4 (option_default ClientPrefix4)
+      ∷ stored_prefix ClientPrefix6 (option_default ClientPrefix6)
+      ∷ stored_prefix ServerPrefix4 (option_default ServerPrefix4)
+      ∷ stored_prefix ServerPrefix6 (option_default ServerPrefix6) ∷ [];
   query_ms = Some (option_default QueryTimeout);
   skew_us = Some (option_default SkewTimeout);
 }
@@ -59,7 +66,8 @@ with_hints hints s = record s { params = record s.params { hints = hints } }
 
 -- the settings with the prefix of an option at its index
 abbrev pub with_prefix : ℕ → NumberOption → ℕ → Settings → Settings
-with_prefix index option bits s = record s { params = record s.params { prefixes = slice_set s.params.prefixes index (stored_prefix option bits) } }
+with_prefix index option bits s =
+    record s { params = record s.params { prefixes = slice_set s.params.prefixes index (stored_prefix option bits) } }
 
 -- the settings with the number of an option in the field that it stands for
 abbrev pub with_number : NumberOption → ℕ → Settings → Settings

@@ -6,7 +6,8 @@ use Rattle.cd_block.specs.declared.stamp.Stamp.{Stamp}
 abbrev pub second : ℕ
 second = 1000000000
 
--- the tick of a time: its nanoseconds divided by the length of a tick, which is a whole number of nanoseconds, rounded down
+-- the tick of a time: its nanoseconds divided by the length of a tick, which is a whole number of nanoseconds, rounded
+-- down
 abbrev pub tick_of : ℕ → ℕ → ℕ
 tick_of ticks time = time / (second / ticks)
 

@@ -9,8 +9,8 @@ ghost use Rattle.cd_hints.specs.Records.{event_message};
 use cd_ident::{Body, Event};
 use cd_message::Message;
 
-/// A query with its response, or an event that stands alone (RFC 8618 10). `kept_item` and `kept_malformed` ask that each event has
-/// the kind that the record names.
+/// A query with its response, or an event that stands alone (RFC 8618 10). `kept_item` and `kept_malformed` ask that
+/// each event has the kind that the record names.
 #[derive(Debug, Drop)]
 pub enum Rec {
     /// A query and its response.
@@ -38,7 +38,8 @@ fn message_of(event: &Event) -> Option<&Message>
 }
 
 impl Rec {
-    ghost use Rattle.cd_hints.specs.Records.{record_parts, main_event, query_of, response_of, query_message, response_message};
+    ghost use Rattle.cd_hints.specs.Records.{record_parts, main_event, query_of, response_of, query_message};
+    ghost use Rattle.cd_hints.specs.Records.{response_message};
     ghost use Rattle.cd_hints.specs.Items.{main_message};
 
     /// The event whose time, ends and ID are those of the record: the query, or else the only event.

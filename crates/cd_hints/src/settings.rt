@@ -48,8 +48,8 @@ fn stored_prefix(option: NumberOption, bits: u64) -> Option<u8>
 }
 
 impl Settings {
-    /// Puts the number of an option into the field that it stands for. The option must admit it. A prefix of the full width
-    /// becomes absent.
+    /// Puts the number of an option into the field that it stands for. The option must admit it. A prefix of the full
+    /// width becomes absent.
     pub fn put(&mut self, option: NumberOption, number: u64)
         requires { Admits option number }
         ensures put { self.new ≡ with_number option number self.old }

@@ -29,7 +29,8 @@ IsNothing (Message m) = ⊥
 IsNothing (Payload p) = ⊥
 IsNothing Nothing = ⊤
 
--- a query has a valid message with QR 0, a response one with QR 1, what is no message its bytes, and what is discarded nothing
+-- a query has a valid message with QR 0, a response one with QR 1, what is no message its bytes, and what is discarded
+-- nothing
 abbrev pub HasBody : Kind → Body → Type 0
 HasBody Query body = IsMessage 0 body
 HasBody Response body = IsMessage 1 body

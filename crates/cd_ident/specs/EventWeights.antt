@@ -20,7 +20,8 @@ abbrev pub EventWeightsAreBounded : Type 0
 EventWeightsAreBounded = (rules : EventRules) (d : Datagram) → length d.payload ≤ 65535 →
     IsEventWeight (event_parts rules d).weight
 
--- sixteen times the weight of the event of a datagram is at most 829 times a number five above the length of its payload
+-- sixteen times the weight of the event of a datagram is at most 829 times a number five above the length of its
+-- payload
 abbrev pub EventWeightsAreLinear : Type 0
 EventWeightsAreLinear = (rules : EventRules) (d : Datagram) →
     16 * (event_parts rules d).weight ≤ 829 * (length d.payload + 5)

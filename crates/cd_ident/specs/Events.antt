@@ -31,7 +31,8 @@ pub record EventParts : Type 0 where
   pub weight : ℕ
   pub body : Body
 
--- what a payload is: its kind, its ends, whether bytes follow the message, its identifiers, its weight and what is kept of it
+-- what a payload is: its kind, its ends, whether bytes follow the message, its identifiers, its weight and what is kept
+-- of it
 abbrev pub parts_of_payload : Datagram → Ends → Kind → Bool → Ids → ℕ → Body → EventParts
 parts_of_payload d ends kind trailing ids weight body = record {
   time = d.time;
@@ -60,20 +61,27 @@ message_ends d m = ends_of (nat_eq (qr_of m.bits) 0) d
 
 -- the identifiers of a message
 abbrev pub message_ids : Datagram → dns.Message → Ids
-message_ids d m = record { primary = primary_of (message_ends d m) m.id (opcode_of m.bits); secondary = secondary_of m.questions }
+message_ids d m = record {
+  primary = primary_of (message_ends d m) m.id (opcode_of m.bits);
+  secondary = secondary_of m.questions;
+}
 
 -- a message whose opcode is not listed
 abbrev pub discarded_parts : Datagram → dns.Message → ℕ → EventParts
-discarded_parts d m used = parts_of_payload d (message_ends d m) Discarded (nat_lt used (length d.payload)) (bare_ids (message_ends d m)) LEAST_WEIGHT Nothing
+discarded_parts d m used =
+    parts_of_payload d (message_ends d m) Discarded (nat_lt used (length d.payload)) (bare_ids (message_ends d m))
+    LEAST_WEIGHT Nothing
 
 -- a message whose opcode is listed
 abbrev pub kept_parts : Datagram → dns.Message → ℕ → EventParts
 kept_parts d m used =
-    parts_of_payload d (message_ends d m) (if nat_eq (qr_of m.bits) 0 then Query else Response) (nat_lt used (length d.payload)) (message_ids d m) (weight_of m) (Message m)
+    parts_of_payload d (message_ends d m) (if nat_eq (qr_of m.bits) 0 then Query else Response)
+    (nat_lt used (length d.payload)) (message_ids d m) (weight_of m) (Message m)
 
 -- a message that takes so many bytes of the payload
 abbrev pub message_parts : EventRules → Datagram → dns.Message → ℕ → EventParts
-message_parts rules d m used = if is_listed rules.opcodes (opcode_of m.bits) then kept_parts d m used else discarded_parts d m used
+message_parts rules d m used =
+    if is_listed rules.opcodes (opcode_of m.bits) then kept_parts d m used else discarded_parts d m used
 
 -- what the payload spells, or breaks
 abbrev pub parts_of_reading : EventRules → Datagram → Result (dns.Message × ℕ) MsgWhy → EventParts

@@ -26,8 +26,10 @@ pub record AreSameEnds (one other : Ends) : Type 0 where
 
 -- primaries are equal exactly if their ends, IDs and opcodes are
 abbrev pub PrimariesAreExact : Type 0
-PrimariesAreExact = (one other : Ends) (id other_id opcode other_opcode : ℕ) → EndsFit one → EndsFit other → id < 2 ^ 16 → other_id < 2 ^ 16 →
-    (primary_of one id opcode ≡ primary_of other other_id other_opcode) ↔ (AreSameEnds one other × (id ≡ other_id) × (opcode ≡ other_opcode))
+PrimariesAreExact = (one other : Ends) (id other_id opcode other_opcode : ℕ) → EndsFit one → EndsFit other →
+    id < 2 ^ 16 → other_id < 2 ^ 16 →
+    (primary_of one id opcode ≡ primary_of other other_id other_opcode)
+    ↔ (AreSameEnds one other × (id ≡ other_id) × (opcode ≡ other_opcode))
 
 -- secondaries of two questions are equal exactly if their types and classes are, and their names but for case
 abbrev pub SecondariesAreExact : Type 0
@@ -44,5 +46,7 @@ pub record GoesBack (sent back : Datagram) : Type 0 where
 
 -- a response that goes back where a query came from, with its ID and opcode, has its primary
 abbrev pub ResponsesHaveThePrimary : Type 0
-ResponsesHaveThePrimary = (sent back : Datagram) (query response : Message) → GoesBack sent back → qr_of query.bits ≡ 0 → qr_of response.bits ≡ 1 →
-    response.id ≡ query.id → opcode_of response.bits ≡ opcode_of query.bits → (message_ids back response).primary ≡ (message_ids sent query).primary
+ResponsesHaveThePrimary = (sent back : Datagram) (query response : Message) → GoesBack sent back →
+    qr_of query.bits ≡ 0 → qr_of response.bits ≡ 1 →
+    response.id ≡ query.id → opcode_of response.bits ≡ opcode_of query.bits →
+    (message_ids back response).primary ≡ (message_ids sent query).primary

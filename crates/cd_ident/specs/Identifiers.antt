@@ -1,5 +1,7 @@
--- The identifiers of an event (RFC 8618 10.2): a primary that both halves of an exchange have, and a secondary that one may lack.
-use Rattle.std.specs.Prelude.{◌≡◌, ℕ, Bool, ◌&&◌, nat_eq, List, [], ◌∷◌, ◌++◌, map, if◌then◌else◌, slice_index, Option, Some, None, ◌⊎◌}
+-- The identifiers of an event (RFC 8618 10.2): a primary that both halves of an exchange have, and a secondary that one
+-- may lack.
+use Rattle.std.specs.Prelude.{◌≡◌, ℕ, Bool, ◌&&◌, nat_eq, List, [], ◌∷◌, ◌++◌, map, if◌then◌else◌, slice_index, Option}
+use Rattle.std.specs.Prelude.{Some, None, ◌⊎◌}
 use Rattle.std.specs.Int.{w16, to_be_bytes}
 use Rattle.std.specs.Cmp.Lexicographic.{pointwise}
 use Rattle.cd_name.specs.Names.{lower_case}
@@ -26,11 +28,12 @@ ends_of from_client d =
 abbrev pub version_byte : Bool → ℕ
 version_byte v6 = if v6 then 1 else 0
 
--- The primary, 41 bytes: the version of IP, the client's address, the server's, the client's port, the server's, 0 for UDP, the ID and the
--- opcode (RFC 8618 10.2.1).
+-- The primary, 41 bytes: the version of IP, the client's address, the server's, the client's port, the server's, 0 for
+-- UDP, the ID and the opcode (RFC 8618 10.2.1).
 abbrev pub primary_of : Ends → ℕ → ℕ → List ℕ
 primary_of ends id opcode =
-    version_byte ends.client.v6 ∷ ends.client.octets ++ ends.server.octets ++ to_be_bytes w16 ends.client_port ++ to_be_bytes w16 ends.server_port
+    version_byte ends.client.v6 ∷ ends.client.octets ++ ends.server.octets ++ to_be_bytes w16 ends.client_port
+    ++ to_be_bytes w16 ends.server_port
     ++ 0 ∷ to_be_bytes w16 id ++ opcode ∷ []
 
 -- The secondary: the name of the first question in lower case, its type and its class (RFC 8618 10.2.2).
@@ -52,4 +55,5 @@ ids_agree one other = pointwise nat_eq one.primary other.primary && secondaries_
 
 -- the same in words
 abbrev pub IdsAgree : Ids → Ids → Type 0
-IdsAgree one other = (one.primary ≡ other.primary) × ((one.secondary ≡ other.secondary) ⊎ ((one.secondary ≡ None) ⊎ (other.secondary ≡ None)))
+IdsAgree one other = (one.primary ≡ other.primary)
+    × ((one.secondary ≡ other.secondary) ⊎ ((one.secondary ≡ None) ⊎ (other.secondary ≡ None)))

@@ -36,7 +36,13 @@ side_of Discarded = side.Neither
 
 -- what an event of these parts shows to the pairing
 abbrev pub view_of_parts : EventParts → EventView
-view_of_parts e = record { side = side_of e.kind; time = e.time; weight = e.weight; primary = e.ids.primary; secondary = e.ids.secondary }
+view_of_parts e = record {
+  side = side_of e.kind;
+  time = e.time;
+  weight = e.weight;
+  primary = e.ids.primary;
+  secondary = e.ids.secondary;
+}
 
 -- what an event shows to the pairing
 abbrev pub view_of : Event → EventView
@@ -44,4 +50,5 @@ view_of e = view_of_parts (parts_of e)
 
 -- the identifiers of two events are compatible exactly as the pairing asks
 abbrev pub CompatibleIdsAreTheKeys : Type 0
-CompatibleIdsAreTheKeys = (one other : Event) → ids_agree one.ids other.ids ≡ identifiers_agree (view_of one) (view_of other)
+CompatibleIdsAreTheKeys =
+    (one other : Event) → ids_agree one.ids other.ids ≡ identifiers_agree (view_of one) (view_of other)

@@ -31,8 +31,8 @@ pub fn event_weights_are_bounded()
     ensures { EventWeightsAreBounded }
 {}
 
-/// Sixteen times the weight of the event of a datagram is at most 829 times a number: the length of its payload in bytes,
-/// and five. The payload may have any length.
+/// Sixteen times the weight of the event of a datagram is at most 829 times a number: the length of its payload in
+/// bytes, and five. The payload may have any length.
 pub fn event_weights_are_linear()
     ensures { EventWeightsAreLinear }
 {}

@@ -1,10 +1,10 @@
 -- The payload of a datagram and UDP's header are among the captured bytes of its packet.
-use Rattle.std.proofs.Common.{◌≡◌, ℕ, ◌+◌, ◌-◌, ◌*◌, ◌%◌, ◌/◌, ◌<◌, ◌≤◌, Bool, true, false, nat_lt, nat_eq, ◌&&◌, ◌||◌, not, List, length, take, drop, if◌then◌else◌, refl, arith, subst}
+use Rattle.std.proofs.Common.{◌≡◌, ℕ, ◌+◌, ◌-◌, ◌%◌, ◌/◌, ◌≤◌, Bool, true, false, nat_lt, nat_eq, ◌&&◌, ◌||◌, not, List, length, drop, if◌then◌else◌, refl, arith, subst}
 use Rattle.std.specs.Prelude.{slice_index}
 use Rattle.std.proofs.lemmas.Bool.{ltb-false}
 use Rattle.std.proofs.lemmas.List.{length-take}
 use Rattle.cd_bytes.specs.Numbers.{be16}
-use Rattle.cd_packet.specs.Layers.{Datagram, Found, datagram, skipped, skip_for_missing, IpPacket, udp_layer, ipv4_packet, ipv4_layer, network_layer, ethernet_layer, link_layer, timed_layer, layer_of, header_length, total_length}
+use Rattle.cd_packet.specs.Layers.{Datagram, Found, datagram, skipped, skip_for_missing, IpPacket, udp_layer, ipv4_packet, ipv4_layer, link_layer, timed_layer, layer_of, header_length, total_length}
 use Rattle.cd_packet.specs.declared.datagram.Reason.{Reason}
 use Rattle.cd_packet.specs.declared.datagram.Reason.TheVariants.{Link, Length, NotIp, Fragment, NotUdp, Port, Cut, Time, NoTime}
 use Rattle.cd_packet.specs.declared.packet.Packet.{Packet}

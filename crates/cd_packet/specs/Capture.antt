@@ -29,7 +29,8 @@ IsWholeOrCut Whole = ⊤
 IsWholeOrCut Cut = ⊤
 IsWholeOrCut (Bad b) = ⊥
 
--- What a capture becomes as its bytes go on: its packets stay, and others may follow; after a refused place nothing does.
+-- What a capture becomes as its bytes go on: its packets stay, and others may follow; after a refused place nothing
+-- does.
 pub record Grows (now later : Capture) : Type 0 where
   pub rest : Capture
   pub packets : later ≡ after now.packets rest

@@ -1,10 +1,13 @@
--- What the layers of a packet hold: Ethernet, IPv4 (RFC 791 3.1) and UDP (RFC 768). The first rule that applies decides.
-use Rattle.std.specs.Prelude.{◌≡◌, ℕ, ◌+◌, ◌-◌, ◌*◌, ◌%◌, ◌/◌, ◌≤◌, false, nat_lt, nat_eq, ◌&&◌, ◌||◌, not, List, [], ◌∷◌, length, take, drop, slice_index, if◌then◌else◌, refl, ⊤}
+-- What the layers of a packet hold: Ethernet, IPv4 (RFC 791 3.1) and UDP (RFC 768). The first rule that applies
+-- decides.
+use Rattle.std.specs.Prelude.{◌≡◌, ℕ, ◌+◌, ◌-◌, ◌*◌, ◌%◌, ◌/◌, ◌≤◌, false, nat_lt, nat_eq, ◌&&◌, ◌||◌, not, List, []}
+use Rattle.std.specs.Prelude.{◌∷◌, length, take, drop, slice_index, if◌then◌else◌, refl, ⊤}
 use Rattle.cd_packet.specs.declared.address.Addr.{Addr}
 use Rattle.cd_packet.specs.declared.datagram.Layer.{Layer}
 use Rattle.cd_packet.specs.declared.datagram.Layer.TheVariants as layer
 use Rattle.cd_packet.specs.declared.datagram.Reason.{Reason}
-use Rattle.cd_packet.specs.declared.datagram.Reason.TheVariants.{Link, Length, NotIp, Fragment, NotUdp, Port, Cut, Time, NoTime}
+use Rattle.cd_packet.specs.declared.datagram.Reason.TheVariants.{Link, Length, NotIp, Fragment, NotUdp, Port, Cut, Time}
+use Rattle.cd_packet.specs.declared.datagram.Reason.TheVariants.{NoTime}
 use Rattle.cd_packet.specs.declared.packet.Packet.{Packet}
 use Rattle.cd_packet.specs.declared.packet.When.{When}
 use Rattle.cd_packet.specs.declared.packet.When.TheVariants.{At, Outside, Missing}
@@ -27,7 +30,16 @@ pub data Found : Type 0 where
 
 -- a layer as a clause sees it
 abbrev pub found_in : Layer → Found
-found_in (layer.Dgram d) = datagram (record { time = d.time; src = d.src; dst = d.dst; sport = d.sport; dport = d.dport; hop = d.hop; payload = d.payload.now })
+found_in (layer.Dgram d) =
+    datagram (record {
+      time = d.time;
+      src = d.src;
+      dst = d.dst;
+      sport = d.sport;
+      dport = d.dport;
+      hop = d.hop;
+      payload = d.payload.now;
+    })
 found_in (layer.Skip r) = skipped r
 
 -- the addresses of a datagram have one version of IP
@@ -48,7 +60,8 @@ skip_for_missing p = if nat_lt (length p.bytes) p.original then skipped Cut else
 abbrev pub ipv4_at : ℕ → List ℕ → Addr
 ipv4_at at bytes = record {
   v6 = false;
-  octets = slice_index bytes at ∷ slice_index bytes (at + 1) ∷ slice_index bytes (at + 2) ∷ slice_index bytes (at + 3) ∷ 0 ∷ 0 ∷ 0 ∷ 0 ∷ 0 ∷ 0 ∷ 0 ∷ 0 ∷ 0 ∷ 0 ∷ 0 ∷ 0 ∷ [];
+  octets = slice_index bytes at ∷ slice_index bytes (at + 1) ∷ slice_index bytes (at + 2) ∷ slice_index bytes (at + 3)
+      ∷ 0 ∷ 0 ∷ 0 ∷ 0 ∷ 0 ∷ 0 ∷ 0 ∷ 0 ∷ 0 ∷ 0 ∷ 0 ∷ 0 ∷ [];
   padded = λ _. refl;
 }
 
@@ -65,8 +78,10 @@ pub record IpPacket : Type 0 where
 -- UDP, which is there with its header
 abbrev pub udp_layer : ℕ → ℕ → Packet → IpPacket → Found
 udp_layer port time p ip =
-    if not (nat_eq (be16 ip.transport p.bytes) port) && not (nat_eq (be16 (ip.transport + 2) p.bytes) port) then skipped Port
-    else (if nat_lt (be16 (ip.transport + 4) p.bytes) 8 || nat_lt ip.end (ip.transport + be16 (ip.transport + 4) p.bytes) then skipped Length
+    if not (nat_eq (be16 ip.transport p.bytes) port)
+    && not (nat_eq (be16 (ip.transport + 2) p.bytes) port) then skipped Port
+    else (if nat_lt (be16 (ip.transport + 4) p.bytes) 8
+    || nat_lt ip.end (ip.transport + be16 (ip.transport + 4) p.bytes) then skipped Length
     else (if nat_lt (length p.bytes) (ip.transport + be16 (ip.transport + 4) p.bytes) then skip_for_missing p
     else datagram (record {
       time = time;
@@ -101,7 +116,8 @@ abbrev pub ipv4_layer : ℕ → ℕ → Packet → ℕ → Found
 ipv4_layer port time p at =
     if nat_lt (length p.bytes) (at + 20) then skip_for_missing p
     else (if not (nat_eq (slice_index p.bytes at / 16) 4) then skipped NotIp
-    else (if nat_lt (header_length at p.bytes) 20 || nat_lt (total_length at p.bytes) (header_length at p.bytes) then skipped Length
+    else (if nat_lt (header_length at p.bytes) 20
+    || nat_lt (total_length at p.bytes) (header_length at p.bytes) then skipped Length
     else (if not (nat_eq (be16 (at + 6) p.bytes % 0x4000) 0) then skipped Fragment
     else (if not (nat_eq (slice_index p.bytes (at + 9)) 17) then skipped NotUdp
     else (if nat_lt (total_length at p.bytes) (header_length at p.bytes + 8) then skipped Length
@@ -114,7 +130,8 @@ network_layer port time p protocol at = if nat_eq protocol 0x0800 then ipv4_laye
 
 -- the header of Ethernet: two addresses and the protocol
 abbrev pub ethernet_layer : ℕ → ℕ → Packet → Found
-ethernet_layer port time p = if nat_lt (length p.bytes) 14 then skip_for_missing p else network_layer port time p (be16 12 p.bytes) 14
+ethernet_layer port time p =
+    if nat_lt (length p.bytes) 14 then skip_for_missing p else network_layer port time p (be16 12 p.bytes) 14
 
 -- what stands after the link type: so far Ethernet alone
 abbrev pub link_layer : ℕ → ℕ → Packet → Found

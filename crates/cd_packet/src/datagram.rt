@@ -30,7 +30,8 @@ pub struct Dgram<'a> {
 pub enum Reason {
     /// The link type is not read.
     Link,
-    /// A length field does not agree with the headers or the packet around it, or bytes are missing though none were cut off.
+    /// A length field does not agree with the headers or the packet around it, or bytes are missing though none were
+    /// cut off.
     Length,
     /// Neither IPv4 nor IPv6.
     NotIp,

@@ -3,7 +3,8 @@
 ghost use Rattle.std.specs.Prelude.{◌≡◌, ◌+◌, ◌<◌, ◌≤◌, ◌↔◌, IsTrue, length};
 ghost use Rattle.cd_bytes.specs.Numbers.{be16};
 ghost use Rattle.cd_packet.specs.IpPackets.{ip_packet_of};
-ghost use Rattle.cd_packet.specs.Layers.{HasOneVersion, HasShortPayload, found_in, skipped, skip_for_missing, ipv4_at, udp_layer, ipv4_layer, ethernet_layer, layer_of, IsEthernetIpv4};
+ghost use Rattle.cd_packet.specs.Layers.{HasOneVersion, HasShortPayload, found_in, skipped, skip_for_missing, ipv4_at};
+ghost use Rattle.cd_packet.specs.Layers.{udp_layer, ipv4_layer, ethernet_layer, layer_of, IsEthernetIpv4};
 ghost use Rattle.cd_packet.specs.Time.{end_of_time};
 
 use crate::{Addr, Dgram, Layer, Packet, Reason, When};
@@ -159,8 +160,9 @@ fn ethernet<'a>(packet: &'a Packet, port: u16, time: u64) -> Layer<'a>
     ipv4(packet, port, time, ETHERNET_HEADER)
 }
 
-/// The datagram in the layers of a packet, or why there is none for this port of DNS. The first rule that applies decides.
-/// The payload stays where it lies in the packet (RFC 791 3.1, RFC 768). It may be called where `is_ethernet_ipv4` holds.
+/// The datagram in the layers of a packet, or why there is none for this port of DNS. The first rule that applies
+/// decides. The payload stays where it lies in the packet (RFC 791 3.1, RFC 768). It may be called where
+/// `is_ethernet_ipv4` holds.
 #[tactic(auto, unfolding(crate::specs::Layers::layer_of))]
 pub fn layers<'a>(packet: &'a Packet, port: u16) -> Layer<'a>
     requires { IsEthernetIpv4 packet.now }

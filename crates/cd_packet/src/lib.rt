@@ -4,9 +4,9 @@
 //! - A `Packet` is one record of it: an offset, a time, a link type, the original length and the captured bytes.
 //! - `layers` reads the link, network and transport layer of a packet: a `Dgram`, or the `Reason` why there is none.
 //!
-//! An example: a packet of Ethernet holds an IPv4 packet of 29 bytes from 192.0.2.77 to 192.0.2.53, and in it UDP from port
-//! 40000 to port 53 with one byte. For port 53 `layers` gives a `Dgram` with that byte as its payload, and for port 54 it gives
-//! `Skip(Port)`.
+//! An example: a packet of Ethernet holds an IPv4 packet of 29 bytes from 192.0.2.77 to 192.0.2.53, and in it UDP from
+//! port 40000 to port 53 with one byte. For port 53 `layers` gives a `Dgram` with that byte as its payload, and for
+//! port 54 it gives `Skip(Port)`.
 //!
 //! Offsets are bytes from the start of the capture. Times are nanoseconds since 1970, below 2^32 seconds.
 #![tactic(auto)]

@@ -1,5 +1,6 @@
 -- What the reader of a capture answers.
-use Rattle.std.specs.Prelude.{◌≡◌, ℕ, ◌+◌, ◌<◌, List, [], ◌∷◌, ◌++◌, length, take, Option, Some, None, Result, Ok, Err, ⊤}
+use Rattle.std.specs.Prelude.{◌≡◌, ℕ, ◌+◌, ◌<◌, List, [], ◌∷◌, ◌++◌, length, take, Option, Some, None, Result, Ok, Err}
+use Rattle.std.specs.Prelude.{⊤}
 use Rattle.std.specs.declared.alloc.AllocError.{AllocError}
 use Rattle.cd_packet.specs.declared.capture.BadCapture.{BadCapture}
 use Rattle.cd_packet.specs.declared.capture.FeedFault.{FeedFault}
@@ -16,7 +17,9 @@ Feeds new fed given (Err NoMemory) = ⊤
 
 -- Where the bytes fed before held a refused place, it is the answer again, for which no memory is wanted.
 abbrev pub RefusesAgain : {U : Type 0} → Kept → Result U FeedFault → Type 0
-RefusesAgain old result = (fed : List ℕ) (given : List Packet) (bad : BadCapture) → StandsFor old fed given → refusal_of fed ≡ Some bad → result ≡ Err (Bad bad)
+RefusesAgain old result =
+    (fed : List ℕ) (given : List Packet) (bad : BadCapture) → StandsFor old fed given → refusal_of fed ≡ Some bad →
+    result ≡ Err (Bad bad)
 
 -- So many bytes more were fed, or no memory was found and nothing changed.
 abbrev pub Counts : {U : Type 0} → Kept → Kept → ℕ → Result U FeedFault → Type 0

@@ -17,14 +17,15 @@ ReadIsSpelled = (bytes : List ℕ) → All (λ byte. byte < 256) bytes → Spell
 abbrev pub SpelledIsRead : Type 0
 SpelledIsRead = (bytes : List ℕ) (c : Capture) → All (λ byte. byte < 256) bytes → Spells bytes c → pcap bytes ≡ c
 
--- Any record that fits, spelled in any form, and then any bytes, is read as the packet that it means, and then what those
--- bytes hold.
+-- Any record that fits, spelled in any form, and then any bytes, is read as the packet that it means, and then what
+-- those bytes hold.
 abbrev pub RecordsAreRead : Type 0
 RecordsAreRead = (form : Form) (link at : ℕ) (r : RawRecord) (rest : List ℕ) → Fits r →
-    records form link 0 at (spelling_of form r ++ rest) ≡ after (packet_of_raw form link at r ∷ []) (records form link 0 (at + (16 + length r.captured)) rest)
+    records form link 0 at (spelling_of form r ++ rest)
+    ≡ after (packet_of_raw form link at r ∷ []) (records form link 0 (at + (16 + length r.captured)) rest)
 
--- What a capture becomes as its bytes go on. Fewer than four bytes hold no packet, whatever they become. From four bytes on
--- the packets stay, and after a refused place nothing comes.
+-- What a capture becomes as its bytes go on. Fewer than four bytes hold no packet, whatever they become. From four
+-- bytes on the packets stay, and after a refused place nothing comes.
 pub record GoesOn (bytes more : List ℕ) : Type 0 where
   pub packets : (rest : List Packet) × ((pcap (bytes ++ more)).packets ≡ (pcap bytes).packets ++ rest)
   pub few : length bytes < 4 → (pcap bytes).packets ≡ []
@@ -36,7 +37,8 @@ CapturesGrow = (bytes more : List ℕ) → GoesOn bytes more
 
 -- the packets given are the first of those in the bytes fed
 abbrev pub GivenAreFirst : Type 0
-GivenAreFirst = (r : Kept) (fed : List ℕ) (given : List Packet) → StandsFor r fed given → (rest : List Packet) × ((pcap fed).packets ≡ given ++ rest)
+GivenAreFirst = (r : Kept) (fed : List ℕ) (given : List Packet) → StandsFor r fed given →
+    (rest : List Packet) × ((pcap fed).packets ≡ given ++ rest)
 
 -- a refused place stays as the bytes go on
 abbrev pub RefusalsStay : Type 0
@@ -52,4 +54,5 @@ PacketsAreWithin = (bytes : List ℕ) → sum_by record_size (pcap bytes).packet
 
 -- all packets stand before the refused place
 abbrev pub PacketsStandBefore : Type 0
-PacketsStandBefore = (bytes : List ℕ) (bad : BadCapture) → (pcap bytes).end ≡ Bad bad → (pcap (take bad.at bytes)).packets ≡ (pcap bytes).packets
+PacketsStandBefore = (bytes : List ℕ) (bad : BadCapture) → (pcap bytes).end ≡ Bad bad →
+    (pcap (take bad.at bytes)).packets ≡ (pcap bytes).packets

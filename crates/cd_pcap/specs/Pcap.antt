@@ -1,5 +1,6 @@
 -- What a pcap capture holds, as one function of all its bytes (the pcap draft, 4 and 5).
-use Rattle.std.specs.Prelude.{ℕ, zero, suc, ◌+◌, ◌*◌, ◌%◌, nat_lt, nat_eq, Bool, List, [], ◌∷◌, length, take, drop, if◌then◌else◌}
+use Rattle.std.specs.Prelude.{ℕ, zero, suc, ◌+◌, ◌*◌, ◌%◌, nat_lt, nat_eq, Bool, List, [], ◌∷◌, length, take, drop}
+use Rattle.std.specs.Prelude.{if◌then◌else◌}
 use Rattle.cd_packet.specs.declared.packet.Packet.{Packet}
 use Rattle.cd_packet.specs.declared.capture.EndState.TheVariants.{Whole, Cut}
 use Rattle.cd_packet.specs.declared.capture.CaptureWhy.TheVariants.{Magic, Version, Record}
@@ -49,11 +50,11 @@ packet_of_parts form link at seconds fraction original bytes = record {
 -- the packet of the record at the front of these bytes, which stand at this offset
 abbrev pub packet_at : Form → ℕ → ℕ → List ℕ → Packet
 packet_at form link at bytes =
-    packet_of_parts form link at (number32_at form.order 0 bytes) (number32_at form.order 4 bytes) (number32_at form.order 12 bytes)
-    (take (captured_length form bytes) (drop 16 bytes))
+    packet_of_parts form link at (number32_at form.order 0 bytes) (number32_at form.order 4 bytes)
+    (number32_at form.order 12 bytes) (take (captured_length form bytes) (drop 16 bytes))
 
--- What these bytes hold, which stand at this offset: so many of them still belong to the record before, and then come the
--- records.
+-- What these bytes hold, which stand at this offset: so many of them still belong to the record before, and then come
+-- the records.
 unfoldable pub records : Form → ℕ → ℕ → ℕ → List ℕ → Capture
 records form link zero at [] = ends Whole
 records form link (suc inside) at [] = ends Cut
@@ -62,9 +63,11 @@ records form link zero at (b ∷ bytes) =
     if nat_lt (length (b ∷ bytes)) 16 then ends Cut
     else (if nat_lt 262144 (captured_length form (b ∷ bytes)) then refused_capture at Record
     else (if nat_lt (length (b ∷ bytes)) (16 + captured_length form (b ∷ bytes)) then ends Cut
-    else after (packet_at form link at (b ∷ bytes) ∷ []) (records form link (15 + captured_length form (b ∷ bytes)) (at + 1) bytes)))
+    else after (packet_at form link at (b ∷ bytes) ∷ [])
+    (records form link (15 + captured_length form (b ∷ bytes)) (at + 1) bytes)))
 
--- a capture that begins with the magic of this form: a header of 24 bytes, with the version and the link type, and records
+-- a capture that begins with the magic of this form: a header of 24 bytes, with the version and the link type, and
+-- records
 unfoldable pub pcap_in : Form → List ℕ → Capture
 pcap_in form bytes =
     if nat_lt (length bytes) 24 then ends Cut

@@ -1,5 +1,6 @@
 -- What a reader of a pcap capture keeps, and for which histories it stands.
-use Rattle.std.specs.Prelude.{◌≡◌, ℕ, ◌+◌, ◌≤◌, nat_lt, List, [], ◌∷◌, ◌++◌, length, drop, Option, Some, None, if◌then◌else◌}
+use Rattle.std.specs.Prelude.{◌≡◌, ℕ, ◌+◌, ◌≤◌, nat_lt, List, [], ◌∷◌, ◌++◌, length, drop, Option, Some, None}
+use Rattle.std.specs.Prelude.{if◌then◌else◌}
 use Rattle.cd_packet.specs.Capture.{Capture, ends, after}
 use Rattle.cd_pcap.specs.Pcap.{little_micros, pcap, records}
 use Rattle.cd_packet.specs.declared.packet.Packet.{Packet}
@@ -62,7 +63,8 @@ pub record HasRead (r : Kept) (fed let_go : List ℕ) (given : List Packet) : Ty
   pub place : length front ≡ r.at
   pub reads : (more : List ℕ) → pcap (front ++ more) ≡ after given (reading_on r.link r.at more)
 
--- The reader stands for the bytes fed and the packets given: some bytes are read, and after the mark no whole record stands.
+-- The reader stands for the bytes fed and the packets given: some bytes are read, and after the mark no whole record
+-- stands.
 pub record StandsFor (r : Kept) (fed : List ℕ) (given : List Packet) : Type 0 where
   pub let_go : List ℕ
   pub read : HasRead r fed let_go given

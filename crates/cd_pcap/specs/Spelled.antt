@@ -50,7 +50,8 @@ pub record Fits (r : RawRecord) : Type 0 where
 -- the 16 bytes before the captured ones: seconds, fraction, captured length and original length
 abbrev pub record_header : Form → ℕ → ℕ → ℕ → ℕ → List ℕ
 record_header form seconds fraction count original =
-    bytes_of w32 form.order seconds ++ bytes_of w32 form.order fraction ++ bytes_of w32 form.order count ++ bytes_of w32 form.order original
+    bytes_of w32 form.order seconds ++ bytes_of w32 form.order fraction ++ bytes_of w32 form.order count
+    ++ bytes_of w32 form.order original
 
 -- a record
 abbrev pub spelling_of : Form → RawRecord → List ℕ
@@ -68,7 +69,8 @@ packet_of_raw form link at r = packet_of_parts form link at r.seconds r.fraction
 -- the packets that records mean, of which the first stands at this offset
 abbrev pub packets_of : Form → ℕ → ℕ → List RawRecord → List Packet
 packets_of form link at [] = []
-packets_of form link at (r ∷ rs) = packet_of_raw form link at r ∷ packets_of form link (at + (16 + length r.captured)) rs
+packets_of form link at (r ∷ rs) =
+    packet_of_raw form link at r ∷ packets_of form link (at + (16 + length r.captured)) rs
 
 -- these bytes begin with a record's header that says so many captured bytes
 pub record BeginsRecord (form : Form) (count : ℕ) (bytes : List ℕ) : Type 0 where
@@ -143,4 +145,5 @@ HasNoMagic bytes = (form : Form) (more : List ℕ) → IsRead form → bytes ≡
 
 -- These bytes spell this capture, in a form that is read.
 abbrev pub Spells : List ℕ → Capture → Type 0
-Spells bytes c = ((form : Form) × IsRead form × SpellsIn form bytes c) ⊎ (HasNoMagic bytes × (c ≡ refused_capture 0 Magic))
+Spells bytes c = ((form : Form) × IsRead form × SpellsIn form bytes c)
+    ⊎ (HasNoMagic bytes × (c ≡ refused_capture 0 Magic))

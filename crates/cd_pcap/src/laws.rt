@@ -1,9 +1,11 @@
 //! Laws on the definitions, each the contract of a function that does nothing.
 
-ghost use Rattle.cd_pcap.specs.Laws.{ReadIsSpelled, SpelledIsRead, RecordsAreRead, CapturesGrow, GivenAreFirst, RefusalsStay};
+ghost use Rattle.cd_pcap.specs.Laws.{ReadIsSpelled, SpelledIsRead, RecordsAreRead, CapturesGrow, GivenAreFirst};
+ghost use Rattle.cd_pcap.specs.Laws.{RefusalsStay};
 ghost use Rattle.cd_pcap.specs.Laws.{PacketsAreWithin, PacketsStandBefore};
 
-/// What is read of some bytes is what they spell: a header, records and what stands after them (the pcap draft, 4 and 5).
+/// What is read of some bytes is what they spell: a header, records and what stands after them (the pcap draft, 4 and
+/// 5).
 pub fn what_is_read_is_spelled()
     ensures { ReadIsSpelled }
 {}
@@ -13,14 +15,14 @@ pub fn what_is_spelled_is_read()
     ensures { SpelledIsRead }
 {}
 
-/// Any record that fits, spelled in any form, and then any bytes, is read as the packet that it means, and then what those
-/// bytes hold (the pcap draft, 5).
+/// Any record that fits, spelled in any form, and then any bytes, is read as the packet that it means, and then what
+/// those bytes hold (the pcap draft, 5).
 pub fn spelled_records_are_read()
     ensures { RecordsAreRead }
 {}
 
-/// The packets of a capture stay as its bytes go on. Fewer than four bytes hold none, and from four bytes on nothing comes
-/// after a refused place.
+/// The packets of a capture stay as its bytes go on. Fewer than four bytes hold none, and from four bytes on nothing
+/// comes after a refused place.
 pub fn captures_grow()
     ensures { CapturesGrow }
 {}
@@ -35,8 +37,8 @@ pub fn refusals_stay()
     ensures { RefusalsStay }
 {}
 
-/// The records of all packets of a capture, each of 16 bytes and the captured ones, together take no more bytes than the
-/// capture has (the pcap draft, 5).
+/// The records of all packets of a capture, each of 16 bytes and the captured ones, together take no more bytes than
+/// the capture has (the pcap draft, 5).
 pub fn packets_are_within_the_capture()
     ensures { PacketsAreWithin }
 {}

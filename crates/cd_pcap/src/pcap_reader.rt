@@ -1,6 +1,7 @@
 //! A reader of a pcap capture that comes in chunks.
 
-ghost use Rattle.std.specs.Prelude.{◌≡◌, ℕ, ◌+◌, ◌≤◌, ◌^◌, [], ◌++◌, List, length, take, drop, Some, None, IsSome, OnOk, OnErr};
+ghost use Rattle.std.specs.Prelude.{◌≡◌, ℕ, ◌+◌, ◌≤◌, ◌^◌, [], ◌++◌, List, length, take, drop, Some, None, IsSome};
+ghost use Rattle.std.specs.Prelude.{OnOk, OnErr};
 
 use crate::record::{HEADER, Header, header_of, open_end, packet_of, record_size, whole_records};
 use cd_packet::{BadCapture, EndState, FeedFault, Packet};
@@ -34,9 +35,21 @@ impl Model for PcapReader {
 
     ghost Value = { Kept };
 
-    ghost view = { λ r. record { fed_count = r.fed_count; held = drop r.start r.bytes.items; at = r.at; whole = r.whole; link = r.link; refused = r.refused } };
+    ghost view = { λ r. record {
+      fed_count = r.fed_count;
+      held = drop r.start r.bytes.items;
+      at = r.at;
+      whole = r.whole;
+      link = r.link;
+      refused = r.refused;
+    } };
 
-    ghost invariant = { λ r. record { within : r.start + r.whole ≤ length r.bytes.items; counted : r.at + (length r.bytes.items - r.start) ≤ r.fed_count; few : r.fed_count ≤ 2 ^ 48; marked : AreWhole r.link r.at (take r.whole (drop r.start r.bytes.items)) } };
+    ghost invariant = { λ r. record {
+      within : r.start + r.whole ≤ length r.bytes.items;
+      counted : r.at + (length r.bytes.items - r.start) ≤ r.fed_count;
+      few : r.fed_count ≤ 2 ^ 48;
+      marked : AreWhole r.link r.at (take r.whole (drop r.start r.bytes.items));
+    } };
 }
 
 impl PcapReader {
@@ -77,7 +90,10 @@ impl PcapReader {
     // Holds a chunk after the other bytes. An `Err` says that no memory was found.
     fn hold(&mut self, chunk: &[u8]) -> Result<(), AllocError>
         requires { self.old.fed_count + length chunk.now ≤ 2 ^ 48 }
-        ensures ok { OnOk result (self.new ≡ record self.old { fed_count = self.old.fed_count + length chunk.now; held = self.old.held ++ chunk.now }) }
+        ensures ok { OnOk result (self.new ≡ record self.old {
+          fed_count = self.old.fed_count + length chunk.now;
+          held = self.old.held ++ chunk.now;
+        }) }
         ensures err { OnErr result (self.new ≡ self.old) }
     {
         self.drop_read();
@@ -109,7 +125,8 @@ impl PcapReader {
     fn mark_records(&mut self)
         requires header { IsSome self.old.link }
         requires sound { self.old.refused ≡ None }
-        ensures history { (fed : List ℕ) (given : List Packet) → HasRead self.old fed [] given → StandsFor self.new fed given }
+        ensures history { (fed : List ℕ) (given : List Packet) → HasRead self.old fed [] given →
+            StandsFor self.new fed given }
         ensures count { self.new.fed_count ≡ self.old.fed_count }
     {
         let mark = self.start + self.whole;
@@ -124,7 +141,8 @@ impl PcapReader {
     // Moves the mark over all that is held: the header, and whole records, up to a refused place.
     fn move_mark(&mut self)
         requires { self.old.refused ≡ None }
-        ensures history { (fed : List ℕ) (given : List Packet) → HasRead self.old fed [] given → StandsFor self.new fed given }
+        ensures history { (fed : List ℕ) (given : List Packet) → HasRead self.old fed [] given →
+            StandsFor self.new fed given }
         ensures count { self.new.fed_count ≡ self.old.fed_count }
     {
         match self.link {
@@ -140,9 +158,9 @@ impl PcapReader {
         }
     }
 
-    /// Takes the next chunk of the capture, of which all chunks have at most 2^48 bytes. `Bad` says that the bytes fed hold
-    /// this refused place: each later call says so again, and `next` still gives the packets before it. `NoMemory` says that
-    /// nothing changed, and the call can be made again.
+    /// Takes the next chunk of the capture, of which all chunks have at most 2^48 bytes. `Bad` says that the bytes fed
+    /// hold this refused place: each later call says so again, and `next` still gives the packets before it. `NoMemory`
+    /// says that nothing changed, and the call can be made again.
     pub fn feed(&mut self, chunk: &[u8]) -> Result<(), FeedFault>
         requires { self.old.fed_count + length chunk.now ≤ 2 ^ 48 }
         ensures history { (fed : List ℕ) (given : List Packet) → StandsFor self.old fed given
@@ -165,8 +183,8 @@ impl PcapReader {
         }
     }
 
-    /// The next packet, where the bytes fed hold one more before a refused place. For want of memory nothing changes, and
-    /// the call can be made again.
+    /// The next packet, where the bytes fed hold one more before a refused place. For want of memory nothing changes,
+    /// and the call can be made again.
     pub fn next(&mut self) -> Result<Option<Packet>, AllocError>
         ensures history { (fed : List ℕ) (given : List Packet) → StandsFor self.old fed given
             → Gives self.new fed given result }

@@ -1,5 +1,6 @@
 -- What the bytes taken say of how a run ends, where they say it.
-use Rattle.std.specs.Prelude.{◌≡◌, ℕ, ◌≤◌, false, ◌++◌, ◌+◌, ◌*◌, Bool, ◌&&◌, ◌||◌, not, nat_lt, List, [], ◌∷◌, length, take, Option, Some, None, is_some, unwrap_or, if◌then◌else◌}
+use Rattle.std.specs.Prelude.{◌≡◌, ℕ, ◌≤◌, false, ◌++◌, ◌+◌, ◌*◌, Bool, ◌&&◌, ◌||◌, not, nat_lt, List, [], ◌∷◌, length}
+use Rattle.std.specs.Prelude.{take, Option, Some, None, is_some, unwrap_or, if◌then◌else◌}
 use Rattle.cd_packet.specs.declared.capture.EndState.{EndState}
 use Rattle.cd_packet.specs.declared.capture.EndState.TheVariants.{Whole, Cut, Bad}
 use Rattle.cd_packet.specs.declared.packet.Packet.{Packet}
@@ -14,7 +15,8 @@ use Rattle.cd_top.specs.declared.status.Status.TheVariants as status
 -- of nanoseconds in little-endian (4d 3c b2 a1) and in big-endian order (a1 b2 3c 4d), and pcapng (0a 0d 0d 0a).
 unfoldable pub is_other_format : List ℕ → Bool
 is_other_format bytes =
-    has_magic 0xd4c3b2a1 bytes || (has_magic 0xa1b23c4d bytes || (has_magic 0x4d3cb2a1 bytes || has_magic 0x0a0d0d0a bytes))
+    has_magic 0xd4c3b2a1 bytes
+    || (has_magic 0xa1b23c4d bytes || (has_magic 0x4d3cb2a1 bytes || has_magic 0x0a0d0d0a bytes))
 
 -- so many packets can be compacted so far
 abbrev pub most_packets : ℕ
@@ -64,8 +66,8 @@ used_bytes status.ReadFault taken = taken
 used_bytes status.WriteFault taken = taken
 used_bytes status.NoMemory taken = taken
 
--- At most so many bytes are taken. Bytes that don't say yet how the run ends are fewer: a header, at most 10,000 packets
--- that can be compacted, and a part of one more record.
+-- At most so many bytes are taken. Bytes that don't say yet how the run ends are fewer: a header, at most 10,000
+-- packets that can be compacted, and a part of one more record.
 abbrev pub most_taken : ℕ
 most_taken = 24 + (most_packets + 1) * 262160
 

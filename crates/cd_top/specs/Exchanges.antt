@@ -81,6 +81,7 @@ no_half = record {
   bits = 0;
 }
 
--- An exchange has the time, the addresses, the ports and the ID of its query, or else of its response (RFC 8618 7.3.2.4).
+-- An exchange has the time, the addresses, the ports and the ID of its query, or else of its response (RFC 8618
+-- 7.3.2.4).
 abbrev pub lead : Exchange → Half
 lead x = unwrap_or x.query (unwrap_or x.response no_half)

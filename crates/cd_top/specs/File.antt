@@ -3,7 +3,8 @@ use Rattle.std.specs.Prelude.{ℕ, zero, suc, ◌-◌, List, [], ◌∷◌, map,
 use Rattle.std.specs.Option.{option_map}
 use Rattle.cd_top.specs.Kept.{kept_block}
 use Rattle.cd_top.specs.Tables.{indexed_block}
-use Rattle.cd_top.specs.Tree.{Tree, unsigned, negative, bytes, text, array, cbor_map, indefinite_array, elements, entries, fields, present, spelling}
+use Rattle.cd_top.specs.Tree.{Tree, unsigned, negative, bytes, text, array, cbor_map, indefinite_array, elements}
+use Rattle.cd_top.specs.Tree.{entries, fields, present, spelling}
 use Rattle.cd_top.specs.declared.exchange.Exchange.{Exchange}
 use Rattle.cd_top.specs.declared.block.Delay.{Delay}
 use Rattle.cd_top.specs.declared.block.Delay.TheVariants.{After, Before}
@@ -51,7 +52,8 @@ sig_tree s = cbor_map (entries (present (
     (0, Some (unsigned s.server_address)) ∷ (1, Some (unsigned s.server_port)) ∷ (2, Some (unsigned s.transport_flags))
     ∷ (4, Some (unsigned s.sig_flags)) ∷ (5, Some (unsigned s.opcode)) ∷ (6, Some (unsigned s.dns_flags))
     ∷ (7, option_map unsigned s.query_rcode) ∷ (9, Some (unsigned s.qd)) ∷ (10, option_map unsigned s.an)
-    ∷ (11, option_map unsigned s.ns) ∷ (12, option_map unsigned s.ar) ∷ (16, option_map unsigned s.response_rcode) ∷ [])))
+    ∷ (11, option_map unsigned s.ns) ∷ (12, option_map unsigned s.ar) ∷ (16, option_map unsigned s.response_rcode)
+    ∷ [])))
 
 -- a number of ticks, below 0 where the response is before its query
 abbrev pub delay_tree : Delay → Tree
@@ -62,7 +64,8 @@ delay_tree (Before n) = negative (n - 1)
 abbrev pub item_tree : BlockItem → Tree
 item_tree i = cbor_map (entries (present (
     (0, Some (unsigned i.time_offset)) ∷ (1, Some (unsigned i.client_address)) ∷ (2, Some (unsigned i.client_port))
-    ∷ (3, Some (unsigned i.transaction_id)) ∷ (4, Some (unsigned i.signature)) ∷ (5, option_map unsigned i.client_hoplimit)
+    ∷ (3, Some (unsigned i.transaction_id)) ∷ (4, Some (unsigned i.signature))
+    ∷ (5, option_map unsigned i.client_hoplimit)
     ∷ (6, option_map delay_tree i.response_delay) ∷ (8, option_map unsigned i.query_size)
     ∷ (9, option_map unsigned i.response_size) ∷ [])))
 
@@ -78,7 +81,8 @@ block_preamble b = cbor_map (entries ((0, stamp_tree b.earliest) ∷ []))
 -- the block preamble, the statistics, the tables and the items
 abbrev pub block_tree : Block → Tree
 block_tree b = cbor_map (entries (
-    (0, block_preamble b) ∷ (1, stats_tree b.stats) ∷ (2, tables_tree b) ∷ (3, array (elements (map item_tree b.items))) ∷ []))
+    (0, block_preamble b) ∷ (1, stats_tree b.stats) ∷ (2, tables_tree b)
+    ∷ (3, array (elements (map item_tree b.items))) ∷ []))
 
 -- one block of the exchanges of so many events, where there are any
 abbrev pub blocks_of : ℕ → List Exchange → List Block
@@ -87,7 +91,8 @@ blocks_of (suc n) xs = indexed_block (kept_block (suc n) xs) ∷ []
 
 -- the file of these blocks
 abbrev pub file_tree : List Block → Tree
-file_tree blocks = array (elements (text (codes "C-DNS") ∷ preamble ∷ indefinite_array (elements (map block_tree blocks)) ∷ []))
+file_tree blocks = array (elements (text (codes "C-DNS") ∷ preamble
+    ∷ indefinite_array (elements (map block_tree blocks)) ∷ []))
 
 -- the file of the exchanges of so many events
 unfoldable pub file_of_exchanges : ℕ → List Exchange → List ℕ

@@ -7,8 +7,8 @@ use Rattle.cd_ident.specs.Keys.{view_of_parts}
 use Rattle.cd_top.specs.Exchanges.{exchanges}
 use Rattle.cd_top.specs.File.{file_of_exchanges}
 
--- the windows of the program: 5 s from a query to its response, 10 microseconds from a response to its query, 262,144 events and
--- 268,435,456 bytes
+-- the windows of the program: 5 s from a query to its response, 10 microseconds from a response to its query, 262,144
+-- events and 268,435,456 bytes
 abbrev pub default_windows : Windows
 default_windows = record { query_ns = 5000000000; skew_ns = 10000; count = 262144; bytes = 268435456 }
 

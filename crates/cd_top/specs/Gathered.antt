@@ -28,13 +28,17 @@ pub record Follows (capture : CaptureEvents) (fed : List ℕ) : Type 0 where
 
 -- what the packets in the bytes say, with the events of the bytes that are used then
 abbrev pub TakesPackets : CaptureEvents → List ℕ → Option Status → Type 0
-TakesPackets capture fed None = Follows capture fed × (status_of_capture (pcap fed) ≡ None) × (map parts_of capture.events ≡ events fed)
-TakesPackets capture fed (Some s) = (status_of_capture (pcap fed) ≡ Some s) × (map parts_of capture.events ≡ events (used_bytes s fed))
+TakesPackets capture fed None =
+    Follows capture fed × (status_of_capture (pcap fed) ≡ None) × (map parts_of capture.events ≡ events fed)
+TakesPackets capture fed (Some s) =
+    (status_of_capture (pcap fed) ≡ Some s) × (map parts_of capture.events ≡ events (used_bytes s fed))
 
 -- what the bytes say, with the events of the bytes that are used then
 abbrev pub SaysStatus : Bool → CaptureEvents → List ℕ → Option Status → Type 0
-SaysStatus told_end capture fed None = Follows capture fed × (status_said told_end fed ≡ None) × (map parts_of capture.events ≡ events fed)
-SaysStatus told_end capture fed (Some s) = (status_said told_end fed ≡ Some s) × (map parts_of capture.events ≡ events (used_bytes s fed))
+SaysStatus told_end capture fed None =
+    Follows capture fed × (status_said told_end fed ≡ None) × (map parts_of capture.events ≡ events fed)
+SaysStatus told_end capture fed (Some s) =
+    (status_said told_end fed ≡ Some s) × (map parts_of capture.events ≡ events (used_bytes s fed))
 
 -- the call took some bytes, which have P
 abbrev pub Took : SourceMeaning → SourceMeaning → (List ℕ → Type 0) → Type 0

@@ -1,5 +1,6 @@
 -- What is kept of some exchanges, field by field, with each value in its place (RFC 8618 7.3.2).
-use Rattle.std.specs.Prelude.{ℕ, ◌+◌, ◌-◌, ◌*◌, ◌/◌, ◌%◌, min, Bool, ◌&&◌, not, nat_le, List, [], ◌∷◌, length, map, fold, Option, Some, None, is_some, if◌then◌else◌}
+use Rattle.std.specs.Prelude.{ℕ, ◌+◌, ◌-◌, ◌*◌, ◌/◌, ◌%◌, min, Bool, ◌&&◌, not, nat_le, List, [], ◌∷◌, length, map}
+use Rattle.std.specs.Prelude.{fold, Option, Some, None, is_some, if◌then◌else◌}
 use Rattle.std.specs.List.{count_by}
 use Rattle.std.specs.Option.{option_map}
 use Rattle.cd_ident.specs.Headers.{opcode_of}
@@ -34,13 +35,14 @@ abbrev pub query_flags : Option Half → ℕ
 query_flags None = 0
 query_flags (Some q) = 1 + 16
 
--- the flags of a signature that a response sets: 2, there is a response, and 32, it has no question (RFC 8618 7.3.2.3.2)
+-- the flags of a signature that a response sets: 2, there is a response, and 32, it has no question (RFC 8618
+-- 7.3.2.3.2)
 abbrev pub response_flags : Option Half → ℕ
 response_flags None = 0
 response_flags (Some r) = 2 + 32
 
--- CD, AD, Z, RA, RD, TC and AA, the bits 4 to 10 of the header's word, as the bits 0 to 6, where there is a message (RFC 8618
--- 7.3.2.3.2)
+-- CD, AD, Z, RA, RD, TC and AA, the bits 4 to 10 of the header's word, as the bits 0 to 6, where there is a message
+-- (RFC 8618 7.3.2.3.2)
 abbrev pub dns_flags_of : Option Half → ℕ
 dns_flags_of None = 0
 dns_flags_of (Some h) = h.bits / 16 % 128
@@ -53,8 +55,8 @@ rcode_of h = h.bits % 16
 abbrev pub record_count : Half → ℕ
 record_count h = 0
 
--- The signature of an exchange (RFC 8618 7.3.2.3.2). The transport is UDP over IPv4 and no bytes follow the messages, whose headers
--- count nothing.
+-- The signature of an exchange (RFC 8618 7.3.2.3.2). The transport is UDP over IPv4 and no bytes follow the messages,
+-- whose headers count nothing.
 abbrev pub kept_sig : Exchange → Sig
 kept_sig x = record {
   server_address = (lead x).server_address;

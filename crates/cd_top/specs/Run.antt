@@ -53,7 +53,8 @@ abbrev pub IsDefinedFile : List ℕ → Bool → List ℕ → Type 0
 IsDefinedFile taken told_end file = IsFileOf default_windows (events (used_bytes (ended_by taken told_end) taken)) file
 
 -- The words are no command: nothing is read or written but the report, which says the place.
-pub record RefusesWords (place : ℕ) (src_old src_new : SourceMeaning) (out_old out_new report_old report_new : SinkMeaning) (result : Status) : Type 0 where
+pub record RefusesWords (place : ℕ) (src_old src_new : SourceMeaning)
+    (out_old out_new report_old report_new : SinkMeaning) (result : Status) : Type 0 where
   pub status : EndsAs result status.Usage
   pub source : src_new ≡ src_old
   pub out : out_new ≡ out_old
@@ -73,7 +74,8 @@ pub record WriteOutranks (old new : SinkMeaning) (result : Status) : Type 0 wher
 abbrev pub ReadFaultIsTold : SourceMeaning → SourceMeaning → Status → Type 0
 ReadFaultIsTold old new result = old.failed ≡ false → new.failed ≡ true → EndsAs result status.ReadFault
 
--- The bytes are a capture that can be compacted: it ends between records or within one, and each packet can be compacted.
+-- The bytes are a capture that can be compacted: it ends between records or within one, and each packet can be
+-- compacted.
 pub record IsServedCapture (bytes : List ℕ) : Type 0 where
   pub end : IsWholeOrCut (pcap bytes).end
   pub packets : first_unserved 0 (pcap bytes).packets ≡ None
@@ -93,7 +95,8 @@ code_of status.NoMemory = 6
 code_of (status.NotYet at) = 8
 
 -- The run took these bytes, and its answer and file are those of the bytes.
-pub record CompactsTaken (taken : List ℕ) (src_old src_new : SourceMeaning) (out_old out_new : SinkMeaning) (result : Status) : Type 0 where
+pub record CompactsTaken (taken : List ℕ) (src_old src_new : SourceMeaning)
+    (out_old out_new : SinkMeaning) (result : Status) : Type 0 where
   pub took : Consumes src_old.left src_new.left taken
   pub stops : StopsReading taken
   pub status : EndsAs result (ended_by taken src_new.ended)
@@ -101,4 +104,5 @@ pub record CompactsTaken (taken : List ℕ) (src_old src_new : SourceMeaning) (o
 
 -- the run took some bytes, and its answer and file are theirs
 abbrev pub Compacts : SourceMeaning → SourceMeaning → SinkMeaning → SinkMeaning → Status → Type 0
-Compacts src_old src_new out_old out_new result = (taken : List ℕ) × CompactsTaken taken src_old src_new out_old out_new result
+Compacts src_old src_new out_old out_new result =
+    (taken : List ℕ) × CompactsTaken taken src_old src_new out_old out_new result

@@ -1,6 +1,7 @@
 //! Takes the bytes of a capture, and keeps the events of its packets.
 
-ghost use Rattle.std.specs.Prelude.{◌≡◌, ℕ, ◌+◌, ◌≤◌, ◌^◌, ◌++◌, [], List, length, map, take, IfOk, OnOk, OnErr, IsTrue, ◌↔◌};
+ghost use Rattle.std.specs.Prelude.{◌≡◌, ℕ, ◌+◌, ◌≤◌, ◌^◌, ◌++◌, [], List, length, map, take, IfOk, OnOk, OnErr};
+ghost use Rattle.std.specs.Prelude.{IsTrue, ◌↔◌};
 ghost use Rattle.std.specs.Option.{option_map};
 ghost use Rattle.cd_ident.specs.Keys.{parts_of};
 ghost use Rattle.cd_top.specs.Gathered.{Follows, TakesPackets, SaysStatus, served_event};
@@ -94,8 +95,8 @@ impl CaptureEvents {
         self.first.extend_from_slice(&chunk[..count])
     }
 
-    /// Takes the next chunk of the capture, of which all chunks have at most 2^48 bytes. An `Err` of any call says that no
-    /// memory was found, and then the value is of no more use.
+    /// Takes the next chunk of the capture, of which all chunks have at most 2^48 bytes. An `Err` of any call says that
+    /// no memory was found, and then the value is of no more use.
     pub fn feed(&mut self, chunk: &[u8]) -> Result<(), AllocError>
         requires { self.old.reader.fed_count + length chunk.now ≤ 2 ^ 48 }
         ensures history { OnOk result ((fed : List ℕ) → Follows self.old fed → Follows self.new (fed ++ chunk.now)) }
@@ -145,7 +146,8 @@ impl CaptureEvents {
         }
     }
 
-    /// What the bytes taken say of how the run ends, where they say it. Fewer than four say nothing before the end was told.
+    /// What the bytes taken say of how the run ends, where they say it. Fewer than four say nothing before the end was
+    /// told.
     pub fn status_said(&mut self, told_end: bool) -> Result<Option<Status>, AllocError>
         ensures history { IfOk result (λ said. (fed : List ℕ) →
             Follows self.old fed → SaysStatus told_end self.new fed said) }

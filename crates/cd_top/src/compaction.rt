@@ -12,8 +12,8 @@ use crate::gathering::gather;
 use cd_ports::{Sink, SinkFault, Source};
 use std::alloc::{AllocError, Global};
 
-/// Reads the capture and writes its file. The file is written at each status but `WriteFault` and `NoMemory`, which leave a
-/// prefix of it.
+/// Reads the capture and writes its file. The file is written at each status but `WriteFault` and `NoMemory`, which
+/// leave a prefix of it.
 pub fn compact<S: Source, K: Sink>(alloc: Global, src: &mut S, out: &mut K) -> Status
     ensures compacts { Compacts (S.means src.old) (S.means src.new) (K.means out.old) (K.means out.new) result }
     ensures calls { (S.means src.new).calls ≤ (S.means src.old).calls + most_taken }

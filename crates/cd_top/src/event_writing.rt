@@ -13,8 +13,8 @@ use cd_pairing::{Windows, pair_all};
 use cd_ports::{Sink, SinkFault};
 use std::alloc::{AllocError, Global};
 
-// How far apart the two events of an exchange may be: 5 s from a query to its response, 10 microseconds from a response to
-// its query, 262,144 events and 268,435,456 bytes.
+// How far apart the two events of an exchange may be: 5 s from a query to its response, 10 microseconds from a response
+// to its query, 262,144 events and 268,435,456 bytes.
 const WINDOWS: Windows = Windows {
     query_ns: 5_000_000_000,
     skew_ns: 10_000,
@@ -22,8 +22,8 @@ const WINDOWS: Windows = Windows {
     bytes: 268_435_456,
 };
 
-/// Writes the file of some events, which are paired first. At an `Err` a prefix of it was written. `NoMemory` may come before
-/// and between writes too.
+/// Writes the file of some events, which are paired first. At an `Err` a prefix of it was written. `NoMemory` may come
+/// before and between writes too.
 ///
 /// The weights of all events together stay below 2^63.
 pub fn write_events<K: Sink>(alloc: Global, events: &[Event], out: &mut K) -> Result<(), SinkFault>

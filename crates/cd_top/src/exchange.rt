@@ -148,7 +148,8 @@ impl Exchange {
     }
 }
 
-/// The exchanges of some events with these partners, in the order of their first events. It fails only for want of memory.
+/// The exchanges of some events with these partners, in the order of their first events. It fails only for want of
+/// memory.
 pub fn exchanges_of(
     alloc: Global,
     events: &[Event],

@@ -1,6 +1,7 @@
 //! Reads a source up to the bytes that say how the run ends.
 
-ghost use Rattle.std.specs.Prelude.{◌≡◌, ℕ, ◌+◌, ◌≤◌, ◌<◌, ◌&&◌, ◌||◌, List, length, IfOk, OnOk, OnErr, false, true, is_err};
+ghost use Rattle.std.specs.Prelude.{◌≡◌, ℕ, ◌+◌, ◌≤◌, ◌<◌, ◌&&◌, ◌||◌, List, length, IfOk, OnOk, OnErr, false, true};
+ghost use Rattle.std.specs.Prelude.{is_err};
 ghost use Rattle.std.specs.Io.KnownBytes.{ReadConsumes, IsAtEnd};
 ghost use Rattle.cd_ports.specs.Counter.{Rose, next_count};
 ghost use Rattle.cd_ports.specs.Reading.{HasCause, gives_byte};
@@ -48,7 +49,8 @@ fn read_slice<S: Source>(src: &mut S, chunk: &mut [u8], most: u64) -> Result<usi
     ensures ended { (S.means src.new).ended ≡ is_end result }
     ensures failed { (S.means src.new).failed ≡ ((S.means src.old).failed || is_err result) }
     ensures calls { (S.means src.new).calls ≡ next_count (S.means src.old).calls }
-    ensures late { (S.means src.new).late ≡ ((S.means src.old).late || ((S.means src.old).failed && gives_byte result)) }
+    ensures late { (S.means src.new).late
+        ≡ ((S.means src.old).late || ((S.means src.old).failed && gives_byte result)) }
 {
     let room = if most < chunk.len() as u64 {
         most as usize
@@ -69,7 +71,8 @@ fn read_front<S: Source>(src: &mut S, chunk: &mut Vec<u8>, most: u64) -> Result<
     ensures ended { (S.means src.new).ended ≡ is_end result }
     ensures failed { (S.means src.new).failed ≡ ((S.means src.old).failed || is_err result) }
     ensures calls { (S.means src.new).calls ≡ next_count (S.means src.old).calls }
-    ensures late { (S.means src.new).late ≡ ((S.means src.old).late || ((S.means src.old).failed && gives_byte result)) }
+    ensures late { (S.means src.new).late
+        ≡ ((S.means src.old).late || ((S.means src.old).failed && gives_byte result)) }
 {
     read_slice(src, chunk.as_mut_slice(), most)
 }

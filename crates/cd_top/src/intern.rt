@@ -3,7 +3,8 @@
 ghost use Rattle.std.specs.Prelude.{◌≡◌, ◌<◌, OnOk, OnErr, IfOk, IfSome, position};
 ghost use Rattle.cd_top.specs.Interning.{put, no_tables, sig_at, put_sig, put_item};
 ghost use Rattle.std.specs.Option.{option_map};
-ghost use Rattle.cd_top.specs.Kept.{query_flags, response_flags, dns_flags_of, rcode_of, record_count, size_of, hop_limit_of, delay_between, delay_of, kept_sig, kept_item};
+ghost use Rattle.cd_top.specs.Kept.{query_flags, response_flags, dns_flags_of, rcode_of, record_count, size_of};
+ghost use Rattle.cd_top.specs.Kept.{hop_limit_of, delay_between, delay_of, kept_sig, kept_item};
 ghost use Rattle.cd_top.specs.Tables.{index_in, same_address, same_sig};
 
 use crate::block::{BlockItem, BlockSig, Delay};
@@ -230,8 +231,8 @@ fn signature_index(table: &[Sig], signature: Sig) -> Option<usize>
     table.iter().position(|other| signature.is_same(other))
 }
 
-/// The index, from 0, of an address in a table, where it is put last if it is not there. An `Err` says that no memory was
-/// found.
+/// The index, from 0, of an address in a table, where it is put last if it is not there. An `Err` says that no memory
+/// was found.
 pub fn put_address(table: &mut List<[u8; 4]>, address: [u8; 4]) -> Result<u64, AllocError>
     ensures table { OnOk result (table.new ≡ put same_address table.old address) }
     ensures index { IfOk result (λ index. index ≡ index_in same_address table.old address) }
@@ -281,8 +282,8 @@ impl Tables {
         }
     }
 
-    /// Takes one more exchange of a block whose earliest time is this tick. An `Err` says that no memory was found, and may
-    /// leave the values of the exchange in the tables without its item.
+    /// Takes one more exchange of a block whose earliest time is this tick. An `Err` says that no memory was found, and
+    /// may leave the values of the exchange in the tables without its item.
     #[tactic(auto, unfolding(crate::specs::Interning::put_item))]
     pub fn put_exchange(&mut self, earliest: u64, exchange: &Exchange) -> Result<(), AllocError>
         ensures { OnOk result (self.new ≡ put_item self.old (kept_item earliest exchange.now)) }

@@ -20,12 +20,14 @@ pub fn each_list_has_one_file()
 /// A law: the tables of a block hold each value once, and no other values than those that were put. It does nothing.
 pub fn tables_hold_each_value_once()
     ensures once { (values : List (List ℕ)) → AllPairs (λ a b. a ≢ b) (table_of same_address values) }
-    ensures all { (values : List (List ℕ)) (x : List ℕ) → Contains values x ↔ Contains (table_of same_address values) x }
+    ensures all { (values : List (List ℕ)) (x : List ℕ) →
+        Contains values x ↔ Contains (table_of same_address values) x }
     ensures signatures_once { (values : List Sig) → AllPairs (λ a b. a ≢ b) (table_of same_sig values) }
     ensures all_signatures { (values : List Sig) (x : Sig) → Contains values x ↔ Contains (table_of same_sig values) x }
 {}
 
-/// A law: sixteen times what the events of a capture weigh together is at most 829 times its length in bytes. It does nothing.
+/// A law: sixteen times what the events of a capture weigh together is at most 829 times its length in bytes. It does
+/// nothing.
 pub fn weights_of_events_are_linear()
     ensures { EventsAreLinear }
 {}

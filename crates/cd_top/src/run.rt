@@ -5,7 +5,8 @@ ghost use Rattle.std.specs.Io.KnownBytes.{IsAtEnd};
 ghost use Rattle.cd_packet.specs.declared.capture.BadCapture.{BadCapture};
 ghost use Rattle.cd_ports.specs.Counter.{Rose};
 ghost use Rattle.cd_top.specs.Endings.{status_said, ended_by, most_taken, StopsReading};
-ghost use Rattle.cd_top.specs.Run.{ComesExactly, IsTaken, EndsAs, Writes, IsDefinedFile, RefusesWords, Refuses, WriteOutranks, ReadFaultIsTold, IsServedCapture, IsSound, code_of};
+ghost use Rattle.cd_top.specs.Run.{ComesExactly, IsTaken, EndsAs, Writes, IsDefinedFile, RefusesWords, Refuses};
+ghost use Rattle.cd_top.specs.Run.{WriteOutranks, ReadFaultIsTold, IsServedCapture, IsSound, code_of};
 ghost use Rattle.cd_top.specs.Words.{language, BreaksAt};
 
 use crate::Status;
@@ -55,7 +56,8 @@ fn refuse<E: Sink>(alloc: Global, place: u64, report: &mut E) -> Status
 /// `compact --opcodes 0 --rr-types 1`. Any other words are refused with `Usage`, and `report` gets `usage PLACE`, where
 /// `PLACE` is the number, from 0, of the first word that differs, is one too many, or is missing.
 ///
-/// What is said of bytes holds where the source and the sinks tell their bytes; all else holds for every source and sink.
+/// What is said of bytes holds where the source and the sinks tell their bytes; all else holds for every source and
+/// sink.
 pub fn run_plain<S: Source, K: Sink, E: Sink>(
     alloc: Global,
     words: &[Blob],
@@ -66,12 +68,16 @@ pub fn run_plain<S: Source, K: Sink, E: Sink>(
     // Usage comes exactly where the words leave the language. Nothing is read then, and the report says the place.
     ensures usage { ComesExactly result Status.Usage (words.now ≢ language) }
     ensures refuses { (place : ℕ) → BreaksAt words.now place →
-        RefusesWords place (S.means src.old) (S.means src.new) (K.means out.old) (K.means out.new) (E.means report.old) (E.means report.new) result }
+        RefusesWords place (S.means src.old) (S.means src.new) (K.means out.old) (K.means out.new)
+        (E.means report.old) (E.means report.new) result }
 
     // BadCapture and NotYet come exactly where the bytes taken say so.
-    ensures bad_capture { words.now ≡ language → (taken : List ℕ) → IsTaken (S.means src.old) (S.means src.new) taken → (b : BadCapture) →
-        ComesExactly result (Status.BadCapture b) (status_said (S.means src.new).ended taken ≡ Some (Status.BadCapture b)) }
-    ensures not_yet { words.now ≡ language → (taken : List ℕ) → IsTaken (S.means src.old) (S.means src.new) taken → (at : ℕ) →
+    ensures bad_capture { words.now ≡ language → (taken : List ℕ) →
+        IsTaken (S.means src.old) (S.means src.new) taken → (b : BadCapture) →
+        ComesExactly result (Status.BadCapture b)
+        (status_said (S.means src.new).ended taken ≡ Some (Status.BadCapture b)) }
+    ensures not_yet { words.now ≡ language → (taken : List ℕ) → IsTaken (S.means src.old) (S.means src.new) taken →
+        (at : ℕ) →
         ComesExactly result (Status.NotYet at) (status_said (S.means src.new).ended taken ≡ Some (Status.NotYet at)) }
 
     // Done comes only where the source told its end, and nothing is left.
@@ -82,7 +88,8 @@ pub fn run_plain<S: Source, K: Sink, E: Sink>(
     ensures read_fault { result ≡ Status.ReadFault → Rose (S.means src.old).faults (S.means src.new).faults }
     ensures read_fault_told { ReadFaultIsTold (S.means src.old) (S.means src.new) result }
     ensures write_fault { result ≡ Status.WriteFault →
-        Rose (K.means out.old).faults (K.means out.new).faults ⊎ Rose (E.means report.old).faults (E.means report.new).faults }
+        Rose (K.means out.old).faults (K.means out.new).faults
+        ⊎ Rose (E.means report.old).faults (E.means report.new).faults }
     ensures outranks_out { WriteOutranks (K.means out.old) (K.means out.new) result }
     ensures outranks_report { WriteOutranks (E.means report.old) (E.means report.new) result }
 
@@ -92,7 +99,8 @@ pub fn run_plain<S: Source, K: Sink, E: Sink>(
 
     // The file of the bytes taken, or of those before the place that stopped the run, is written; the report is not.
     ensures file { words.now ≡ language → (taken : List ℕ) → IsTaken (S.means src.old) (S.means src.new) taken →
-        (file : List ℕ) → IsDefinedFile taken (S.means src.new).ended file → Writes (K.means out.old) (K.means out.new) result file }
+        (file : List ℕ) → IsDefinedFile taken (S.means src.new).ended file →
+        Writes (K.means out.old) (K.means out.new) result file }
     ensures report { words.now ≡ language → E.means report.new ≡ E.means report.old }
 
     // Reading stops in time, within its bounds, and takes no byte after a failed read.
@@ -102,8 +110,10 @@ pub fn run_plain<S: Source, K: Sink, E: Sink>(
     ensures late { (S.means src.old).failed ≡ false → (S.means src.new).late ≡ (S.means src.old).late }
 
     // A capture that can be compacted is, unless memory runs out, where no count of faults rises.
-    ensures complete { words.now ≡ language → (bytes : List ℕ) → (S.means src.old).left ≡ Some bytes → IsServedCapture bytes →
-        IsSound (S.means src.old).faults (S.means src.new).faults → IsSound (K.means out.old).faults (K.means out.new).faults →
+    ensures complete { words.now ≡ language → (bytes : List ℕ) → (S.means src.old).left ≡ Some bytes →
+        IsServedCapture bytes →
+        IsSound (S.means src.old).faults (S.means src.new).faults →
+        IsSound (K.means out.old).faults (K.means out.new).faults →
         (result ≡ Status.Done) ⊎ (result ≡ Status.NoMemory) }
 {
     match place_of_fault(words) {

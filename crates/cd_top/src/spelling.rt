@@ -1,5 +1,5 @@
-//! Spells the parts of a CBOR value, each with the shortest head (RFC 8949 3 and 4.2.1). An `Err` says that no memory was
-//! found.
+//! Spells the parts of a CBOR value, each with the shortest head (RFC 8949 3 and 4.2.1). An `Err` says that no memory
+//! was found.
 
 ghost use Rattle.std.specs.Prelude.{◌≡◌, ◌<◌, [], ◌∷◌, ◌++◌, length, map, OnOk};
 ghost use Rattle.cd_top.specs.Integers.{integer_tree, integer_entry};

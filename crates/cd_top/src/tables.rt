@@ -2,7 +2,8 @@
 
 ghost use Rattle.std.specs.Prelude.{◌≡◌, ◌≤◌, length, IfOk};
 ghost use Rattle.std.specs.List.{count_by};
-ghost use Rattle.cd_top.specs.Kept.{earliest_tick as least_tick, stamp_of, is_unmatched_query, is_unmatched_response, statistics as statistics_of, kept_block};
+ghost use Rattle.cd_top.specs.Kept.{earliest_tick as least_tick, stamp_of, is_unmatched_query, is_unmatched_response};
+ghost use Rattle.cd_top.specs.Kept.{statistics as statistics_of, kept_block};
 ghost use Rattle.cd_top.specs.Tables.{indexed_block};
 
 use crate::block::{Block, Stamp, Stats};

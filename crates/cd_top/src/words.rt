@@ -15,8 +15,8 @@ fn is_word(words: &[Blob], place: usize, word: &[u8]) -> bool
     }
 }
 
-/// Where the words leave the language, if they do: the number, from 0, of the first word that differs, is one too many or is
-/// missing.
+/// Where the words leave the language, if they do: the number, from 0, of the first word that differs, is one too many
+/// or is missing.
 pub fn place_of_fault(words: &[Blob]) -> Option<u64>
     ensures { MatchOption result (words.now ≡ language) (BreaksAt words.now) }
 {

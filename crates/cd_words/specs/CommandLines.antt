@@ -1,8 +1,10 @@
 -- The language of the words of a command: the grammar of command lines, for any command.
-use Rattle.std.specs.Prelude.{◌≡◌, ◌≢◌, ℕ, ◌+◌, ◌*◌, ◌<◌, List, length, [], ◌∷◌, take, drop, slice_index_or, Option, Some, IsSome, IsSomeAnd}
+use Rattle.std.specs.Prelude.{◌≡◌, ◌≢◌, ℕ, ◌+◌, ◌*◌, ◌<◌, List, length, [], ◌∷◌, take, drop, slice_index_or, Option}
+use Rattle.std.specs.Prelude.{Some, IsSome, IsSomeAnd}
 use Rattle.std.specs.Option.{option_map_or}
 
--- The language of a command: its word, the options that words name, the values that they may say, and what these change.
+-- The language of a command: its word, the options that words name, the values that they may say, and what these
+-- change.
 pub record Language (Choice Settings : Type 0) : Type 1 where
   -- the word of the command
   pub command : List ℕ
@@ -26,7 +28,8 @@ HasCommand language words = (0 < length words) × (word_at words 0 ≡ language.
 -- A word names an option that no name before it names. Names stand at the odd places.
 pub record NamesOption {C S : Type 0} (language : Language C S) (words : List (List ℕ)) (place : ℕ) : Type 0 where
   pub named : IsSome (language.named (word_at words place))
-  pub first : (k : ℕ) → 2 * k + 1 < place → language.named (word_at words (2 * k + 1)) ≢ language.named (word_at words place)
+  pub first : (k : ℕ) → 2 * k + 1 < place →
+      language.named (word_at words (2 * k + 1)) ≢ language.named (word_at words place)
 
 -- a name before a place names this option
 abbrev pub IsNamedBefore : {C S : Type 0} → Language C S → List (List ℕ) → ℕ → C → Type 0
@@ -36,7 +39,8 @@ IsNamedBefore language words place option =
 -- a word names an option, and a word that stands after it says a value of this option
 pub record SaysValue {C S : Type 0} (language : Language C S) (words : List (List ℕ)) (place : ℕ) : Type 0 where
   pub there : place + 1 < length words
-  pub said : IsSomeAnd (language.named (word_at words place)) (λ option. language.Says option (word_at words (place + 1)))
+  pub said : IsSomeAnd (language.named (word_at words place))
+      (λ option. language.Says option (word_at words (place + 1)))
 
 -- a command line: after the command, names and values by turns
 pub record IsCommandLine {C S : Type 0} (language : Language C S) (words : List (List ℕ)) : Type 0 where
@@ -49,10 +53,12 @@ pub data BreaksAt {C S : Type 0} (language : Language C S) (words : List (List �
   -- the first word is not the command, or there is none
   no_command : ¬ (HasCommand language words) → BreaksAt language words 0
   -- after a command line stands a word that names no option, or one that was named before
-  no_name : (k : ℕ) → 2 * k + 1 < length words → IsCommandLine language (take (2 * k + 1) words) → ¬ (NamesOption language words (2 * k + 1)) →
+  no_name : (k : ℕ) → 2 * k + 1 < length words → IsCommandLine language (take (2 * k + 1) words) →
+      ¬ (NamesOption language words (2 * k + 1)) →
       BreaksAt language words (2 * k + 1)
   -- after a command line and a name stands no value of the option, or no word
-  no_value : (k : ℕ) → 2 * k + 1 < length words → IsCommandLine language (take (2 * k + 1) words) → NamesOption language words (2 * k + 1) →
+  no_value : (k : ℕ) → 2 * k + 1 < length words → IsCommandLine language (take (2 * k + 1) words) →
+      NamesOption language words (2 * k + 1) →
       ¬ (SaysValue language words (2 * k + 1)) → BreaksAt language words (2 * k + 2)
 
 -- settings in which the options of these names have these values

@@ -17,8 +17,8 @@ SaysCommand words (Compact settings) = IsCommandLine compact words × (settings 
 abbrev pub HasNoCommand : List (List ℕ) → Type 0
 HasNoCommand words = ¬ (HasCommand compact words)
 
--- No language has the command of the words, and the fault stands at place 0; or one has it, and the words break a rule of it
--- at the place of the fault, which stands after the command. Want of memory says nothing of the words.
+-- No language has the command of the words, and the fault stands at place 0; or one has it, and the words break a rule
+-- of it at the place of the fault, which stands after the command. Want of memory says nothing of the words.
 abbrev pub HasFault : List (List ℕ) → WordsFault → Type 0
 HasFault words fault = ((fault ≡ Usage 0) × HasNoCommand words) ⊎ HasFaultIn compact words fault
 

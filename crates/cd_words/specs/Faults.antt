@@ -5,7 +5,8 @@ use Rattle.cd_words.specs.declared.fault.WordsFault.TheVariants.{Usage, NoMemory
 use Rattle.cd_words.specs.CommandLines.{Language, HasCommand, BreaksAt}
 
 -- words begin with the command of a language, and break a rule of it after the command
-pub record BreaksAfterCommand {C S : Type 0} (language : Language C S) (words : List (List ℕ)) (place : ℕ) : Type 0 where
+pub record BreaksAfterCommand {C S : Type 0} (language : Language C S) (words : List (List ℕ)) (place : ℕ)
+    : Type 0 where
   pub command : HasCommand language words
   pub after : 1 ≤ place
   pub breaks : BreaksAt language words place

@@ -27,4 +27,5 @@ pub record BreaksOnce {C S : Type 0} (language : Language C S) (words : List (Li
 -- words are a command line and break no rule, or break a rule at exactly one place and are none
 abbrev pub LinesOrBreaks : {C S : Type 0} → Language C S → Type 0
 LinesOrBreaks language = (words : List (List ℕ)) →
-    (IsCommandLine language words × ((place : ℕ) → ¬ (BreaksAt language words place))) ⊎ ((place : ℕ) × BreaksOnce language words place)
+    (IsCommandLine language words × ((place : ℕ) → ¬ (BreaksAt language words place)))
+    ⊎ ((place : ℕ) × BreaksOnce language words place)

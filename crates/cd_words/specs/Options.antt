@@ -2,7 +2,12 @@
 use Rattle.std.specs.Prelude.{ℕ, List, [], ◌∷◌, ◌++◌, Option, IsSome, IsSomeAnd, codes}
 use Rattle.std.specs.List.{find}
 use Rattle.std.specs.Str.{bytes_eq}
-use Rattle.cd_hints.specs.declared.settings.options.NumberOption.TheVariants.{Workers, Ticks, QueryTimeout, SkewTimeout, Window, WindowBytes, BlockItems, BlockBytes, QrHints, SigHints, RrHints, OtherHints, ClientPrefix4, ClientPrefix6, ServerPrefix4, ServerPrefix6, Port, MaxInput}
+use Rattle.cd_hints.specs.declared.settings.options.NumberOption.TheVariants.{Workers, Ticks, QueryTimeout, SkewTimeout}
+use Rattle.cd_hints.specs.declared.settings.options.NumberOption.TheVariants.{Window, WindowBytes, BlockItems}
+use Rattle.cd_hints.specs.declared.settings.options.NumberOption.TheVariants.{BlockBytes, QrHints, SigHints, RrHints}
+use Rattle.cd_hints.specs.declared.settings.options.NumberOption.TheVariants.{OtherHints, ClientPrefix4, ClientPrefix6}
+use Rattle.cd_hints.specs.declared.settings.options.NumberOption.TheVariants.{ServerPrefix4, ServerPrefix6, Port}
+use Rattle.cd_hints.specs.declared.settings.options.NumberOption.TheVariants.{MaxInput}
 use Rattle.cd_hints.specs.declared.settings.options.ListOption.TheVariants.{Opcodes, RrTypes}
 use Rattle.cd_hints.specs.Options.{name_of, list_name_of, list_range, Admits}
 use Rattle.cd_words.specs.declared.compact_option.CompactOption.{CompactOption}
@@ -12,9 +17,11 @@ use Rattle.cd_words.specs.Parts.{parts_of}
 
 -- the options of `compact`
 abbrev pub all_options : List CompactOption
-all_options = Number Workers ∷ Number Ticks ∷ Number QueryTimeout ∷ Number SkewTimeout ∷ Number Window ∷ Number WindowBytes
+all_options = Number Workers ∷ Number Ticks ∷ Number QueryTimeout ∷ Number SkewTimeout
+    ∷ Number Window ∷ Number WindowBytes
     ∷ Number BlockItems ∷ Number BlockBytes ∷ Number QrHints ∷ Number SigHints ∷ Number RrHints ∷ Number OtherHints
-    ∷ Parts Opcodes ∷ Parts RrTypes ∷ Number ClientPrefix4 ∷ Number ClientPrefix6 ∷ Number ServerPrefix4 ∷ Number ServerPrefix6
+    ∷ Parts Opcodes ∷ Parts RrTypes
+    ∷ Number ClientPrefix4 ∷ Number ClientPrefix6 ∷ Number ServerPrefix4 ∷ Number ServerPrefix6
     ∷ Number Port ∷ Number MaxInput ∷ []
 
 -- the name of an option, without the dashes before it

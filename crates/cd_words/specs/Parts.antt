@@ -12,9 +12,13 @@ is_dash byte = byte == 45
 abbrev pub is_comma : ℕ → Bool
 is_comma byte = byte == 44
 
--- the numbers that a part holds: from the number before its first dash to the one after it, or without a dash that number alone
+-- the numbers that a part holds: from the number before its first dash to the one after it, or without a dash that
+-- number alone
 unfoldable pub interval_of : List ℕ → Option Interval
-interval_of text = option_and_then (λ least. option_map (between least) (if list_any is_dash text then number_of (after_first is_dash text) else Some least))
+interval_of text =
+    option_and_then
+    (λ least.
+    option_map (between least) (if list_any is_dash text then number_of (after_first is_dash text) else Some least))
     (number_of (before_first is_dash text))
 
 -- a part holds a number, and all its numbers lie in the range
@@ -28,7 +32,8 @@ part_of range text = option_and_then (λ part. if is_within range part then Some
 -- texts that are each a part
 abbrev pub each_part : Interval → List (List ℕ) → Option (List Interval)
 each_part range [] = Some []
-each_part range (text ∷ texts) = option_and_then (λ part. option_map (λ parts. part ∷ parts) (each_part range texts)) (part_of range text)
+each_part range (text ∷ texts) =
+    option_and_then (λ part. option_map (λ parts. part ∷ parts) (each_part range texts)) (part_of range text)
 
 -- the parts of a list, which commas join
 unfoldable pub parts_of : Interval → List ℕ → Option (List Interval)

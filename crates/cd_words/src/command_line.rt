@@ -2,7 +2,8 @@
 
 ghost use Rattle.std.specs.Prelude.{◌≡◌, ◌<◌, ◌≤◌, ◌↔◌, IsTrue, length, Some, MatchOption, IfOk, IfErr};
 ghost use Rattle.std.specs.Bool.{Decides, MatchBool};
-ghost use Rattle.cd_words.specs.CommandLines.{word_at, HasCommand, IsNamedBefore, NamesOption, IsCommandLine, settings_of};
+ghost use Rattle.cd_words.specs.CommandLines.{word_at, HasCommand, IsNamedBefore, NamesOption, IsCommandLine};
+ghost use Rattle.cd_words.specs.CommandLines.{settings_of};
 ghost use Rattle.cd_words.specs.Faults.{HasFaultIn};
 
 use crate::fault::WordsFault;
@@ -51,7 +52,8 @@ fn is_named_before<O: CommandOption>(words: &[Blob], place: usize, option: O) ->
 fn option_at<O: CommandOption>(words: &[Blob], place: usize) -> Option<O>
     requires { place < length words.now }
     ensures { MatchOption result (¬ (NamesOption O.language words.now place))
-        (λ option. NamesOption O.language words.now place × (O.language.named (word_at words.now place) ≡ Some option)) }
+        (λ option. NamesOption O.language words.now place
+        × (O.language.named (word_at words.now place) ≡ Some option)) }
 {
     let word = words[place].as_slice();
     let Some(option) = O::named(word) else {

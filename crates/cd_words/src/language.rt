@@ -6,7 +6,8 @@ ghost use Rattle.cd_words.specs.CommandLines.{Language};
 
 use std::alloc::{AllocError, Global};
 
-/// An option of a command. It tells the language of the command: which options there are, what each says and what it changes.
+/// An option of a command. It tells the language of the command: which options there are, what each says and what it
+/// changes.
 pub trait CommandOption: Copy {
     /// What the options change.
     type Settings: Drop;

@@ -1,6 +1,7 @@
 //! Lists of the command line: their parts.
 
-ghost use Rattle.std.specs.Prelude.{◌≡◌, ◌∷◌, [], ◌==◌, ◌<◌, ◌≤◌, ◌^◌, length, IfOk, IfSome, is_some, MatchOption, if◌then◌else◌, Some, None};
+ghost use Rattle.std.specs.Prelude.{◌≡◌, ◌∷◌, [], ◌==◌, ◌<◌, ◌≤◌, ◌^◌, length, IfOk, IfSome, is_some, MatchOption};
+ghost use Rattle.std.specs.Prelude.{if◌then◌else◌, Some, None};
 ghost use Rattle.std.specs.Option.{option_map, option_map_or};
 ghost use Rattle.std.specs.List.{list_any, before_first, after_first, slice_split};
 ghost use Rattle.cd_hints.specs.Options.{between};
@@ -17,7 +18,8 @@ fn cut(text: &[u8], at: u8) -> (&[u8], Option<&[u8]>)
     ensures found { is_some result.1 ≡ list_any (λ b. b == at) text.now }
     ensures after { IfSome result.1 (λ rest. rest.now ≡ after_first (λ b. b == at) text.now) }
     ensures shorter { IfSome result.1 (λ rest. length rest.now < length text.now) }
-    ensures split { slice_split (λ b. b == at) text.now ≡ result.0.now ∷ option_map_or (λ rest. slice_split (λ b. b == at) rest.now) result.1 [] }
+    ensures split { slice_split (λ b. b == at) text.now ≡ result.0.now
+        ∷ option_map_or (λ rest. slice_split (λ b. b == at) rest.now) result.1 [] }
 {
     match text.iter().position(|byte| *byte == at) {
         Some(index) => (&text[..index], Some(&text[index + 1..])),

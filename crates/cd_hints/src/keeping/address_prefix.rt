@@ -17,8 +17,8 @@ fn first_bits_of_byte(bits: usize, byte: u8) -> u8
     (u16::from(byte) / unit * unit) as u8
 }
 
-/// The bytes of an address with all bits past the first `bits` 0, and how many of them are stored: as many as have a bit that
-/// is kept. Without `bits` all are kept, 4 bytes of IPv4 and 16 of IPv6.
+/// The bytes of an address with all bits past the first `bits` 0, and how many of them are stored: as many as have a
+/// bit that is kept. Without `bits` all are kept, 4 bytes of IPv4 and 16 of IPv6.
 pub fn prefix(addr: &Addr, bits: Option<u8>) -> ([u8; 16], usize)
     requires { ForSome bits (λ n. n ≤ width_of addr.now.v6) }
     ensures bytes { result.0 ≡ prefix_bytes addr.now bits }

@@ -69,9 +69,9 @@ fn dropped_of(keeper: &Keeper, of_query: bool, message: Option<&Message>) -> u64
     }
 }
 
-/// How many resource records in the messages of a record have a type that is not listed, whatever the hints are. The OPT record
-/// of a query is not counted. 0 for a malformed message, and for one whose opcode is not listed. Where the types ascend, a resource
-/// record costs a binary search among them.
+/// How many resource records in the messages of a record have a type that is not listed, whatever the hints are. The
+/// OPT record of a query is not counted. 0 for a malformed message, and for one whose opcode is not listed. Where the
+/// types ascend, a resource record costs a binary search among them.
 pub fn dropped(settings: &Settings, rec: &Rec) -> u64
     ensures { result ≡ Lists.dropped settings.now.params.rr_types (record_parts rec.now) }
 {

@@ -39,7 +39,8 @@ fn first_question(message: Option<&Message>) -> Option<&Question>
     }
 }
 
-// The lead question of a record: the query's first one, or the response's first one where there is no query or it has none.
+// The lead question of a record: the query's first one, or the response's first one where there is no query or it has
+// none.
 fn lead_question(rec: &Rec) -> Option<&Question>
     ensures { option_copied result ≡ Items.lead_question (record_parts rec.now) }
 {
@@ -148,9 +149,9 @@ fn response_extended(alloc: Global, keeper: &Keeper, rec: &Rec) -> Result<KeptLi
     }
 }
 
-/// The item of a pair, a query or a response, in a block with this earliest time, which is at or before the record's (RFC 8618
-/// 7.3.2.4). The settings must be valid. A field is there exactly where its hint is set and it has a value. An `Err` is for want of
-/// memory.
+/// The item of a pair, a query or a response, in a block with this earliest time, which is at or before the record's
+/// (RFC 8618 7.3.2.4). The settings must be valid. A field is there exactly where its hint is set and it has a value.
+/// An `Err` is for want of memory.
 pub fn kept_item(
     alloc: Global,
     settings: &Settings,

@@ -19,8 +19,8 @@ fn is_in_ascending(types: &[u16], rtype: u16) -> bool
     }
 }
 
-// The parameters by which a record is kept, with whether their types are known to ascend. Those of valid settings do. Where they do,
-// a type is found by binary search.
+// The parameters by which a record is kept, with whether their types are known to ascend. Those of valid settings do.
+// Where they do, a type is found by binary search.
 #[derive(Debug, Drop)]
 pub(crate) struct Keeper<'a> {
     pub(crate) params: &'a Params,

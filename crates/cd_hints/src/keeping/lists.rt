@@ -82,7 +82,8 @@ fn kept_rr(alloc: Global, hints: Hints, record: &Rr) -> Result<KeptRr, AllocErro
 
 // Whether a record is kept in a list: its type is listed, and where the list has no OPT record it is none.
 fn is_kept(keeper: &Keeper, with_opt: bool, record: &Rr) -> bool
-    ensures { result ≡ ((with_opt || not (is_opt «record».now)) && Lists.is_listed_record keeper.now.rr_types «record».now) }
+    ensures { result ≡ ((with_opt || not (is_opt «record».now))
+        && Lists.is_listed_record keeper.now.rr_types «record».now) }
 {
     (with_opt || record.rtype != OPT) && keeper.lists(record.rtype)
 }
@@ -97,7 +98,8 @@ fn listed_records(
 ) -> Result<List<KeptRr>, AllocError>
     ensures { IfOk result (λ list. list ≡
         map (Lists.kept_rr keeper.now.hints)
-        (filter (Lists.is_listed_record keeper.now.rr_types) (if with_opt then records.now else Lists.without_opt records.now))) }
+        (filter (Lists.is_listed_record keeper.now.rr_types)
+        (if with_opt then records.now else Lists.without_opt records.now))) }
 {
     let hints = keeper.params.hints;
     let mut list = Vec::new(alloc);
@@ -109,7 +111,8 @@ fn listed_records(
     Ok(List::from_vec(list))
 }
 
-// The records whose types are listed, in their order, where the hint of their list is set, with OPT records among them or without.
+// The records whose types are listed, in their order, where the hint of their list is set, with OPT records among them
+// or without.
 fn kept_records(
     alloc: Global,
     keeper: &Keeper,

@@ -48,8 +48,8 @@ fn kept_data(alloc: Global, params: &Params, event: &Event) -> Result<KeptData, 
     })
 }
 
-/// A malformed message, whole, in a block with this earliest time, which is at or before the record's (RFC 8618 7.3.2.6). The
-/// settings must be valid, and the record must be a malformed message. An `Err` is for want of memory.
+/// A malformed message, whole, in a block with this earliest time, which is at or before the record's (RFC 8618
+/// 7.3.2.6). The settings must be valid, and the record must be a malformed message. An `Err` is for want of memory.
 pub fn kept_malformed(
     alloc: Global,
     settings: &Settings,

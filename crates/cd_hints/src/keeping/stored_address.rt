@@ -54,7 +54,8 @@ pub(crate) fn hinted_address(
     addr: &Addr,
 ) -> Result<Option<Blob>, AllocError>
     requires { ForSome bits (λ n. n ≤ width_of addr.now.v6) }
-    ensures { IfOk result (λ address. address ≡ Hinted.kept hints hint (Some (Addresses.stored_address bits addr.now))) }
+    ensures { IfOk result (λ address.
+        address ≡ Hinted.kept hints hint (Some (Addresses.stored_address bits addr.now))) }
 {
     if !is_hinted(hints, hint) {
         return Ok(None);

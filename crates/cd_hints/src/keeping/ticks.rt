@@ -11,8 +11,8 @@ use cd_block::Stamp;
 // A second in nanoseconds.
 const SECOND: u64 = 1_000_000_000;
 
-/// The tick of a time since 1970 in nanoseconds, rounded down, where a second has so many ticks: 1,000,000 or 1,000,000,000 (RFC
-/// 8618 7.3.1.1.1).
+/// The tick of a time since 1970 in nanoseconds, rounded down, where a second has so many ticks: 1,000,000 or
+/// 1,000,000,000 (RFC 8618 7.3.1.1.1).
 pub fn tick_of(ticks: u64, time: u64) -> u64
     requires { Admits Ticks ticks }
     ensures tick { result ≡ times.tick_of ticks time }

@@ -15,8 +15,8 @@ fn zeros(alloc: Global, count: usize) -> Result<Vec<u32>, AllocError>
     vec![in alloc; 0u32; count]
 }
 
-// For each number below a limit, one more than the greatest number below the limit of the parts that begin there, or 0 where none
-// does.
+// For each number below a limit, one more than the greatest number below the limit of the parts that begin there, or 0
+// where none does.
 fn reaches(alloc: Global, limit: u32, parts: &[Interval]) -> Result<Vec<u32>, AllocError>
     ensures { IfOk result (λ v. AreReaches limit parts.now v.items) }
 {
@@ -31,7 +31,8 @@ fn reaches(alloc: Global, limit: u32, parts: &[Interval]) -> Result<Vec<u32>, Al
     Ok(reaches)
 }
 
-// The numbers below a limit that the parts hold, ascending and each once. It takes as many steps as there are parts and numbers.
+// The numbers below a limit that the parts hold, ascending and each once. It takes as many steps as there are parts and
+// numbers.
 fn numbers_below(alloc: Global, limit: u32, parts: &[Interval]) -> Result<Vec<u16>, AllocError>
     requires { limit ≤ 2 ^ 16 }
     ensures { IfOk result (λ v. v.items ≡ listed_below limit parts.now) }
@@ -48,8 +49,8 @@ fn numbers_below(alloc: Global, limit: u32, parts: &[Interval]) -> Result<Vec<u1
     Ok(numbers)
 }
 
-/// The types of records that the parts hold, ascending and each once. The parts may stand in any order and overlap; a number
-/// above 65,535 is no type. It takes as many steps as there are parts and types. An `Err` is for want of memory.
+/// The types of records that the parts hold, ascending and each once. The parts may stand in any order and overlap; a
+/// number above 65,535 is no type. It takes as many steps as there are parts and types. An `Err` is for want of memory.
 pub fn types_of(alloc: Global, parts: &[Interval]) -> Result<List<u16>, AllocError>
     ensures { IfOk result (λ types. types ≡ listed_types parts.now) }
 {

@@ -3,7 +3,8 @@
 ghost use Rattle.std.specs.Prelude.{◌≡◌, ◌≢◌, ◌↔◌, All, IsTrue, MatchOption};
 ghost use Rattle.cd_hints.specs.declared.settings.options.NumberOption.{NumberOption};
 ghost use Rattle.cd_hints.specs.declared.settings.options.ListOption.{ListOption};
-ghost use Rattle.cd_hints.specs.Options.{name_of, option_range, option_default, list_name_of, list_range, list_default, IsAllowed, Admits};
+ghost use Rattle.cd_hints.specs.Options.{name_of, option_range, option_default, list_name_of, list_range, list_default};
+ghost use Rattle.cd_hints.specs.Options.{IsAllowed, Admits};
 
 use crate::settings::interval::Interval;
 use cd_block::hints::{QR_PROCESSING_DATA, SIG_QR_TYPE};
@@ -96,7 +97,8 @@ static DEFAULT_RR_TYPES: [Interval; 2] = [
 
 // The first of some options with a name.
 fn first_named(options: &[NumberOption], name: &[u8]) -> Option<NumberOption>
-    ensures { MatchOption result (All (λ option. name_of option ≢ name.now) options.now) (λ option. name_of option ≡ name.now) }
+    ensures { MatchOption result (All (λ option. name_of option ≢ name.now) options.now)
+        (λ option. name_of option ≡ name.now) }
 {
     options.iter().copied().find(|option| option.name() == name)
 }
@@ -104,7 +106,8 @@ fn first_named(options: &[NumberOption], name: &[u8]) -> Option<NumberOption>
 impl NumberOption {
     /// The option with a name, if one has it.
     pub fn named(name: &[u8]) -> Option<NumberOption>
-        ensures { MatchOption result ((option : NumberOption) → name_of option ≢ name.now) (λ option. name_of option ≡ name.now) }
+        ensures { MatchOption result ((option : NumberOption) → name_of option ≢ name.now)
+            (λ option. name_of option ≡ name.now) }
     {
         first_named(&NUMBER_OPTIONS, name)
     }
@@ -197,8 +200,8 @@ impl NumberOption {
         }
     }
 
-    /// Whether it may say this number: one of its range; of the ticks, 1,000,000 or 1,000,000,000; and of the hints, none
-    /// with the bit of a field that is never kept.
+    /// Whether it may say this number: one of its range; of the ticks, 1,000,000 or 1,000,000,000; and of the hints,
+    /// none with the bit of a field that is never kept.
     pub fn admits(self, number: u64) -> bool
         ensures { IsTrue result ↔ Admits self number }
     {
@@ -209,7 +212,8 @@ impl NumberOption {
 impl ListOption {
     /// The option with a name, if one has it.
     pub fn named(name: &[u8]) -> Option<ListOption>
-        ensures { MatchOption result ((option : ListOption) → list_name_of option ≢ name.now) (λ option. list_name_of option ≡ name.now) }
+        ensures { MatchOption result ((option : ListOption) → list_name_of option ≢ name.now)
+            (λ option. list_name_of option ≡ name.now) }
     {
         LIST_OPTIONS
             .iter()

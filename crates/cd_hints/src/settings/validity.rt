@@ -67,8 +67,8 @@ fn are_valid_params(params: &Params) -> bool
         && admits_present(NumberOption::SkewTimeout, params.skew_us)
 }
 
-/// Whether settings are valid: each number is one that its option may say, both timeouts are there, no flag is set, and the
-/// types ascend, each once. A prefix may be absent.
+/// Whether settings are valid: each number is one that its option may say, both timeouts are there, no flag is set, and
+/// the types ascend, each once. A prefix may be absent.
 pub fn valid(settings: &Settings) -> bool
     ensures { IsTrue result ↔ IsValid settings.now }
 {

@@ -18,7 +18,7 @@ names-preserved g c =
     record {
       odd = omega (arith, c.names.invariant.odd);
       none = none_named_more language words c.names.before c.args.option c.names.invariant.odd c.names.invariant.none
-      (λ named. false≢true (sym c.if-names.false ∙ c.names-in-names.ensures.1 (ap language.named is ∙ named)));
+          (λ named. false≢true (sym c.if-names.false ∙ c.names-in-names.ensures.1 (ap language.named is ∙ named)));
     }
 
 pub returns-then-names : goal.returns-then-names
