@@ -52,14 +52,6 @@ spelling_all_append [] ys = refl
 spelling_all_append (x ∷ xs) ys =
     ap (λ t. spelling x ++ t) (spelling_all_append xs ys) ∙ sym (append_assoc (spelling x) (spelling_all xs) (spelling_all ys))
 
--- pairs after others
-pub spelling_pairs_append : (ps qs : List (Item × Item)) → spelling_pairs (ps ++ qs) ≡ spelling_pairs ps ++ spelling_pairs qs
-spelling_pairs_append [] qs = refl
-spelling_pairs_append (p ∷ ps) qs =
-    ap (λ t. spelling p.0 ++ (spelling p.1 ++ t)) (spelling_pairs_append ps qs)
-    ∙ ap (λ t. spelling p.0 ++ t) (sym (append_assoc (spelling p.1) (spelling_pairs ps) (spelling_pairs qs)))
-    ∙ sym (append_assoc (spelling p.0) (spelling p.1 ++ spelling_pairs ps) (spelling_pairs qs))
-
 -- one more value's item, in a loop that writes them
 pub spelling_all_more : {X : Type 0} (f : X → Item) (xs : List X) (i : ℕ) (d : X) → i < length xs →
     spelling_all (map f (take (i + 1) xs)) ≡ spelling_all (map f (take i xs)) ++ spelling (f (get_or xs i d))

@@ -24,7 +24,6 @@
 #![tactic(auto)]
 
 mod encoding;
-mod entries;
 mod head;
 mod integer;
 mod item;
@@ -32,7 +31,6 @@ mod major_type;
 mod values;
 
 pub use encoding::encode;
-pub use entries::{present_count, push_entries, push_fields, push_present};
 pub use head::{push_array_head, push_head, push_map_head};
 pub use integer::Integer;
 pub use item::Item;
