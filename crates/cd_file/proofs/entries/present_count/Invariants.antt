@@ -1,5 +1,5 @@
 -- the count so far
-use Rattle.std.proofs.Common.{◌≡◌, ◌≤◌, take, map, length}
+use Rattle.std.proofs.Common.{◌≡◌, ◌≤◌, take, map}
 use Rattle.cd_file.specs.Maps.{number_entry, entries_count}
 use Rattle.cd_file.proofs.entries.present_count.Given as goal
 
