@@ -1,16 +1,15 @@
 -- In which order windows close, and what was in a window that is open.
-use Rattle.std.proofs.Common.{◌≡◌, ℕ, zero, suc, ◌+◌, ◌-◌, ◌<◌, ◌≤◌, ◌⊎◌, inl, inr, Bool, true, ◌&&◌, leb, ltb, max, List, [], ◌∷◌, ◌++◌, length, set, get_or, Option, Some, None, refl, ap, sym, ◌∙◌, arith, length-set}
+use Rattle.std.proofs.Common.{◌≡◌, ℕ, zero, suc, ◌+◌, ◌-◌, ◌<◌, ◌≤◌, inl, inr, Bool, true, ◌&&◌, leb, ltb, max, List, [], ◌∷◌, length, set, get_or, Option, Some, None, ap, ◌∙◌, arith, length-set}
 use Rattle.std.proofs.lemmas.Bool.{and_parts, and_from, ltb-true, leb-true, lt-ltb, le-leb}
 use Rattle.std.proofs.lemmas.Option.{none-some}
 use Rattle.std.proofs.lemmas.List.{length_push}
-use Rattle.cd_pairing.specs.declared.keyed.Side.{Side}
 use Rattle.cd_pairing.specs.declared.keyed.TheConstants.{LEAST_WEIGHT}
 use Rattle.cd_pairing.specs.declared.keyed.Windows.{Windows}
 use Rattle.cd_pairing.specs.Events.{EventView}
-use Rattle.cd_pairing.specs.Pairing.{StampedEvent, timeout, is_in_window}
+use Rattle.cd_pairing.specs.Pairing.{StampedEvent, timeout}
 use Rattle.cd_pairing.proofs.OpenWindows.{in_window_from}
 use Rattle.cd_window.specs.declared.held.Held.{Held}
-use Rattle.cd_window.specs.Seen.{Seen, count_of, held_at, stamped, waits_after, is_open}
+use Rattle.cd_window.specs.Seen.{Seen, count_of, stamped, waits_after}
 use Rattle.cd_window.specs.Pushes.{next_held, with_partner, IsPushed}
 use Rattle.cd_window.specs.Keeping.{StampsRise}
 use Rattle.cd_window.specs.Laws.{WindowsCloseInOrder, OpenWereOpen}
@@ -119,7 +118,7 @@ pushed_count {E} view w e new P = elim P.held [
   | inl J ↦
       let f = P.first in
       let l : length new.held ≡ length w.held + 1 = ap length J.new_is ∙ length_push (set w.held J.place (Some (with_partner J.was (count_of w)))) (Some (next_held view w e (Some (w.first + J.place))))
-        ∙ ap (λ (n : ℕ). n + 1) (length-set w.held J.place (Some (with_partner J.was (count_of w)))) in
+      ∙ ap (λ (n : ℕ). n + 1) (length-set w.held J.place (Some (with_partner J.was (count_of w)))) in
       omega arith
   | inr A ↦
       let f = P.first in
@@ -139,13 +138,14 @@ open_were_open {E} view w e new P k h opens =
     let s = P.weight_sum in
     let wc : new.windows.count ≡ w.windows.count = ap (λ (x : Windows). x.count) P.windows in
     let wb : new.windows.bytes ≡ w.windows.bytes = ap (λ (x : Windows). x.bytes) P.windows in
-    let wt : timeout new.windows (view h.event).side ≡ timeout w.windows (view h.event).side = ap (λ (x : Windows). timeout x (view h.event).side) P.windows in
-    ( in_window_from w.windows (stamped view (w.first + k) h) (stamped view (count_of w) (next_held view w e None))
-        (let x : max w.clock (view e).time - h.clock ≤ timeout w.windows (view h.event).side = omega arith in x)
-        (let x : count_of w - (w.first + k) < w.windows.count = omega arith in x)
-        (let x : w.weight_sum + (view e).weight - h.weight_sum + (view h.event).weight ≤ w.windows.bytes = omega arith in x)
-    , waits_from w.windows (count_of w) w.clock w.weight_sum (stamped view (w.first + k) h) (record {
+    let wt : timeout new.windows (view h.event).side ≡ timeout w.windows (view h.event).side = ap (λ (x : Windows). timeout x (view h.event).side) P.windows in (
+      in_window_from w.windows (stamped view (w.first + k) h) (stamped view (count_of w) (next_held view w e None))
+          (let x : max w.clock (view e).time - h.clock ≤ timeout w.windows (view h.event).side = omega arith in x)
+          (let x : count_of w - (w.first + k) < w.windows.count = omega arith in x)
+          (let x : w.weight_sum + (view e).weight - h.weight_sum + (view h.event).weight ≤ w.windows.bytes = omega arith in x),
+      waits_from w.windows (count_of w) w.clock w.weight_sum (stamped view (w.first + k) h) (record {
         near = let x : count_of w - (w.first + k) < w.windows.count = omega arith in x;
         time = let x : w.clock - h.clock ≤ timeout w.windows (view h.event).side = omega arith in x;
         light = let x : w.weight_sum - h.weight_sum + (view h.event).weight + LEAST_WEIGHT ≤ w.windows.bytes = omega arith in x;
-      }) )
+      }),
+    )

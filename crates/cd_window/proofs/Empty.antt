@@ -1,5 +1,5 @@
 -- A window that was given no event, and one of which the end is told.
-use Rattle.std.proofs.Common.{◌≡◌, ℕ, ◌+◌, ◌<◌, ◌≤◌, ◌^◌, true, false, List, [], length, Option, Some, None, refl, sym, ◌∙◌, arith}
+use Rattle.std.proofs.Common.{◌≡◌, ℕ, ◌<◌, ◌≤◌, ◌^◌, true, List, [], Some, None, refl, sym, ◌∙◌, arith}
 use Rattle.std.proofs.lemmas.Bool.{true≢false}
 use Rattle.std.proofs.lemmas.Option.{none-some}
 use Rattle.std.proofs.lemmas.List.{get_or_past}
@@ -7,8 +7,7 @@ use Rattle.cd_pairing.specs.declared.keyed.Windows.{Windows}
 use Rattle.cd_pairing.specs.Events.{EventView}
 use Rattle.cd_pairing.specs.Matching.{partner}
 use Rattle.cd_window.specs.declared.released.Released.{Released}
-use Rattle.cd_window.specs.declared.held.Held.{Held}
-use Rattle.cd_window.specs.Seen.{Seen, empty_window, held_at}
+use Rattle.cd_window.specs.Seen.{Seen, empty_window}
 use Rattle.cd_window.specs.History.{StandsFor}
 use Rattle.cd_window.specs.Keeping.{Keeps}
 

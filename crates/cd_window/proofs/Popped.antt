@@ -1,23 +1,23 @@
 -- What a window stands for after a pop.
-use Rattle.std.proofs.Common.{◌≡◌, ℕ, zero, suc, ◌+◌, ◌<◌, ◌≤◌, ◌⊎◌, inl, inr, Bool, true, false, not, ◌||◌, List, [], ◌∷◌, ◌++◌, length, drop, map, set, get_or, Option, Some, None, refl, ap, sym, ◌∙◌, subst, arith, length-drop, length-set}
+use Rattle.std.proofs.Common.{◌≡◌, ℕ, zero, suc, ◌+◌, ◌<◌, ◌≤◌, inl, inr, true, false, List, [], ◌∷◌, ◌++◌, length, drop, map, set, get_or, Option, Some, None, refl, ap, sym, ◌∙◌, subst, arith, length-drop}
 use Rattle.std.specs.Prelude.{slice_get}
 use Rattle.std.proofs.lemmas.Bool.{cases_lt, true≢false}
 use Rattle.std.proofs.lemmas.Option.{none-some}
-use Rattle.std.proofs.lemmas.List.{get_or-drop, get_or_past, drop-drop, append-nil, length-map}
+use Rattle.std.proofs.lemmas.List.{get_or-drop, get_or_past, drop-drop, append-nil}
 use Rattle.cd_pairing.specs.declared.keyed.Side.{Side}
 use Rattle.cd_pairing.specs.declared.keyed.Side.TheVariants.{Query, Response, Neither}
 use Rattle.cd_pairing.specs.Events.{EventView, event_at, are_opposite}
-use Rattle.cd_pairing.specs.Pairing.{StampedEvent, stamped_event}
+use Rattle.cd_pairing.specs.Pairing.{StampedEvent}
 use Rattle.cd_pairing.specs.Matching.{partner}
 use Rattle.cd_pairing.specs.Settling.{is_settled}
 use Rattle.cd_pairing.specs.Records.{pair}
 use Rattle.cd_pairing.proofs.OpenWindows.{compatible_parts}
 use Rattle.cd_window.specs.declared.released.Released.{Released}
-use Rattle.cd_window.specs.declared.released.Released.TheVariants.{Pair, One}
+use Rattle.cd_window.specs.declared.released.Released.TheVariants.{One}
 use Rattle.cd_window.specs.declared.held.Held.{Held}
 use Rattle.cd_window.specs.Seen.{Seen, held_at, is_ready, is_front_ready}
-use Rattle.cd_window.specs.Pops.{IsLeft, in_order, PopsOne, PopsPair, IsPopped}
-use Rattle.cd_window.specs.History.{ArePushed, IsRecord, IsHeld, StandsFor, listed, events_in, weight_in}
+use Rattle.cd_window.specs.Pops.{IsLeft, in_order, PopsOne, PopsPair}
+use Rattle.cd_window.specs.History.{IsRecord, StandsFor, events_in, weight_in}
 use Rattle.cd_window.specs.Laws.{PopsStand}
 use Rattle.cd_window.proofs.Pushing.{held_is, held_stamp}
 use Rattle.cd_window.proofs.Ready.{front_settled}
@@ -36,13 +36,13 @@ pub skips_all : {E : Type 0} (view : E → EventView) (n : ℕ) (w : Seen E) (f 
 skips_all {E} view zero w f hs pushed popped S le empty ef eh =
     let e : w.first ≡ f = omega arith in
     subst (λ (x : ℕ). StandsFor view (record w { first = x; held = hs }) pushed popped) e
-      (subst (λ (xs : List (Option (Held E))). StandsFor view (record w { first = w.first; held = xs }) pushed popped) (sym eh) S)
+    (subst (λ (xs : List (Option (Held E))). StandsFor view (record w { first = w.first; held = xs }) pushed popped) (sym eh) S)
 skips_all {E} view (suc n) w f hs pushed popped S le empty ef eh =
     let one : suc n ≡ 1 + n = omega arith in
     let ld = length-drop 1 w.held in
     skips_all view n (moved w w.held) f hs pushed popped (skips view w pushed popped S (omega arith) (empty 0 (omega arith))) (omega arith)
-      (λ k lt. get_or-drop 1 w.held k None ∙ empty (1 + k) (omega arith)) (omega arith)
-      (eh ∙ ap (λ (m : ℕ). drop m w.held) one ∙ sym (drop-drop n 1 w.held))
+    (λ k lt. get_or-drop 1 w.held k None ∙ empty (1 + k) (omega arith)) (omega arith)
+    (eh ∙ ap (λ (m : ℕ). drop m w.held) one ∙ sym (drop-drop n 1 w.held))
 
 -- what is left when the front has gone
 pub leaves : {E : Type 0} (view : E → EventView) (w : Seen E) (rest : List (Option (Held E))) (new : Seen E) (pushed : List E) (popped : List (Released E)) → StandsFor view (moved w rest) pushed popped → IsLeft w rest new → StandsFor view new pushed popped
@@ -51,8 +51,8 @@ leaves {E} view w rest new pushed popped T L =
     let inside : s < length rest = L.within in
     let ld = length-drop 1 rest in
     subst (λ (x : Seen E). StandsFor view x pushed popped) (sym L.new_is)
-      (skips_all view s (moved w rest) (w.first + (1 + s)) (drop (1 + s) rest) pushed popped T (omega arith)
-        (λ k lt. get_or-drop 1 rest k None ∙ L.empty (1 + k) (omega arith) (omega arith)) (omega arith) (sym (drop-drop s 1 rest)))
+    (skips_all view s (moved w rest) (w.first + (1 + s)) (drop (1 + s) rest) pushed popped T (omega arith)
+    (λ k lt. get_or-drop 1 rest k None ∙ L.empty (1 + k) (omega arith) (omega arith)) (omega arith) (sym (drop-drop s 1 rest)))
 
 -- what is ready is settled
 ready_settled : {E : Type 0} (view : E → EventView) (w : Seen E) (pushed : List E) (popped : List (Released E)) (S : StandsFor view w pushed popped) (h : Held E) → 0 < length w.held → held_at w 0 ≡ Some h → is_ready view w ≡ true →
@@ -60,7 +60,7 @@ ready_settled : {E : Type 0} (view : E → EventView) (w : Seen E) (pushed : Lis
 ready_settled {E} view w pushed popped S h lt e ready going =
     let z : w.first + 0 ≡ w.first = omega arith in
     subst (λ (i : ℕ). is_settled w.windows (map view pushed) S.partners i ≡ true) z
-      (sym (front_settled view w pushed popped S going h lt e) ∙ sym (ap (is_front_ready view w) e) ∙ ready)
+    (sym (front_settled view w pushed popped S going h lt e) ∙ sym (ap (is_front_ready view w) e) ∙ ready)
 
 -- what a query or a response is paired with
 opposes_neither : (x : Side) → are_opposite Neither x ≡ true → ⊥
@@ -94,8 +94,8 @@ popped_one : {E : Type 0} (view : E → EventView) (w : Seen E) (r : Released E)
 popped_one {E} view w r new pushed popped S ready P =
     let some : 0 < length w.held = place_within w.held 0 P.was P.held in
     subst (λ (y : Released E). StandsFor view new pushed (popped ++ y ∷ [])) (sym P.result_is)
-      (leaves view w w.held new pushed (popped ++ One w.first P.was.event ∷ [])
-        (tells_one view w P.was pushed popped S some P.held P.free (ready_settled view w pushed popped S P.was some P.held ready)) P.left)
+    (leaves view w w.held new pushed (popped ++ One w.first P.was.event ∷ [])
+    (tells_one view w P.was pushed popped S some P.held P.free (ready_settled view w pushed popped S P.was some P.held ready)) P.left)
 
 popped_pair : {E : Type 0} (view : E → EventView) (w : Seen E) (r : Released E) (new : Seen E) (pushed : List E) (popped : List (Released E)) → StandsFor view w pushed popped → PopsPair view w r new → StandsFor view new pushed (popped ++ r ∷ [])
 popped_pair {E} view w r new pushed popped S P =
@@ -119,9 +119,9 @@ popped_pair {E} view w r new pushed popped S P =
     let told : Released E = in_order (view P.was.event).side w.first P.was.event P.other.event in
     let is : IsRecord view pushed (pair w.first j) told = pair_told view pushed (view P.was.event).side w.first j P.was.event P.other.event refl sides (subst (λ (i : ℕ). slice_get pushed i ≡ Some P.was.event) z H.event) G.event in
     subst (λ (y : Released E). StandsFor view new pushed (popped ++ y ∷ [])) (sym P.result_is)
-      (leaves view w (set w.held P.place None) new pushed (popped ++ told ∷ [])
-        (tells_pair view w P.was P.other P.place told pushed popped S some inside P.held P.other_held P.paired is (in_order_two (view P.was.event).side w.first P.was.event P.other.event)
-          (in_order_weight view (view P.was.event).side w.first P.was.event P.other.event)) P.left)
+    (leaves view w (set w.held P.place None) new pushed (popped ++ told ∷ [])
+    (tells_pair view w P.was P.other P.place told pushed popped S some inside P.held P.other_held P.paired is (in_order_two (view P.was.event).side w.first P.was.event P.other.event)
+    (in_order_weight view (view P.was.event).side w.first P.was.event P.other.event)) P.left)
 
 pub popped_stands : {E : Type 0} (view : E → EventView) → PopsStand view
 popped_stands {E} view w None new pushed popped S P = subst (λ (xs : List (Released E)). StandsFor view new pushed xs) (sym (append-nil popped)) (subst (λ (x : Seen E). StandsFor view x pushed popped) (sym P.1) S)

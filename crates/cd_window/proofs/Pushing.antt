@@ -1,5 +1,5 @@
 -- What a window stands for after a push.
-use Rattle.std.proofs.Common.{◌≡◌, ℕ, zero, suc, ◌+◌, ◌-◌, ◌<◌, ◌≤◌, ◌⊎◌, inl, inr, Bool, true, false, not, ◌&&◌, ◌||◌, leb, ltb, max, List, [], ◌∷◌, ◌++◌, length, take, map, set, get_or, cond, Option, Some, None, refl, ap, sym, ◌∙◌, subst, arith, length-set}
+use Rattle.std.proofs.Common.{◌≡◌, ℕ, zero, suc, ◌+◌, ◌-◌, ◌<◌, ◌≤◌, inl, inr, Bool, true, false, not, ◌&&◌, ◌||◌, leb, ltb, max, List, [], ◌∷◌, ◌++◌, length, take, map, set, get_or, cond, Option, Some, None, refl, ap, sym, ◌∙◌, subst, arith, length-set}
 use Rattle.std.specs.Prelude.{slice_get, is_some}
 use Rattle.std.specs.List.{fold, sum_by}
 use Rattle.std.proofs.lemmas.Bool.{cases_lt, cases_eq, cases_Bool, true≢false}
@@ -42,10 +42,13 @@ more_pushed : {E : Type 0} (view : E → EventView) (pushed more : List E) (i j 
 more_pushed view pushed more i j q r A = record { is_query = A.is_query; query_at = get_more pushed more i q A.query_at; response_at = get_more pushed more j r A.response_at }
 
 still_told : {E : Type 0} (view : E → EventView) (pushed more : List E) (r : Record) (x : Released E) → IsRecord view pushed r x → IsRecord view (pushed ++ more) r x
-still_told view pushed more (pair i j) (Pair lead q a) h = (h.0, elim h.1 [
-  | inl p ↦ inl (more_pushed view pushed more i j q a p)
-  | inr p ↦ inr (more_pushed view pushed more j i q a p)
-])
+still_told view pushed more (pair i j) (Pair lead q a) h = (
+  h.0,
+  elim h.1 [
+    | inl p ↦ inl (more_pushed view pushed more i j q a p)
+    | inr p ↦ inr (more_pushed view pushed more j i q a p)
+  ],
+)
 still_told view pushed more (single i) (One lead e) h = (h.0, get_more pushed more i e h.1)
 still_told view pushed more (pair i j) (One lead e) h = h
 still_told view pushed more (single i) (Pair lead q a) h = h
@@ -111,10 +114,10 @@ fits_is {E} view w e pushed popped S k h lt q =
     let n : count_of w ≡ length events = S.count ∙ sym (length-map pushed view) in
     let one = held_stamp view pushed S.partners w.first (w.first + k) h (held_is view w pushed popped S k h lt q) ∙ sym (stamped-append events (view e ∷ []) (w.first + k) (omega arith)) in
     let next : stamped view (count_of w) (next_held view w e None) ≡ stamped_event (events ++ view e ∷ []) (length events) =
-        ap (λ (x : ℕ). let r : StampedEvent = record { view = view e; index = x; clock = max w.clock (view e).time; weight_sum = w.weight_sum + (view e).weight } in r) n
-        ∙ ap (λ (x : ℕ). let r : StampedEvent = record { view = view e; index = length events; clock = max x (view e).time; weight_sum = w.weight_sum + (view e).weight } in r) S.clock
-        ∙ ap (λ (x : ℕ). let r : StampedEvent = record { view = view e; index = length events; clock = max (fold (λ latest y. max latest y.time) 0 events) (view e).time; weight_sum = x + (view e).weight } in r) S.weight_sum
-        ∙ stamp_next events (view e) in
+    ap (λ (x : ℕ). let r : StampedEvent = record { view = view e; index = x; clock = max w.clock (view e).time; weight_sum = w.weight_sum + (view e).weight } in r) n
+    ∙ ap (λ (x : ℕ). let r : StampedEvent = record { view = view e; index = length events; clock = max x (view e).time; weight_sum = w.weight_sum + (view e).weight } in r) S.clock
+    ∙ ap (λ (x : ℕ). let r : StampedEvent = record { view = view e; index = length events; clock = max (fold (λ latest y. max latest y.time) 0 events) (view e).time; weight_sum = x + (view e).weight } in r) S.weight_sum
+    ∙ stamp_next events (view e) in
     ap (λ (x : StampedEvent). may_pair w.windows x (stamped view (count_of w) (next_held view w e None))) one ∙ ap (λ (x : StampedEvent). may_pair w.windows (stamped_event (events ++ view e ∷ []) (w.first + k)) x) next
 
 neither_opposes : (a b : Side) → is_neither a ≡ true → are_opposite a b ≡ false
@@ -151,14 +154,14 @@ none_before {E} view w e pushed popped S going limit le N m lt free opens =
       | inl told ↦ elim (cases_Bool (are_compatible w.windows all m (length events))) [
         | inr x ↦ x
         | inl x ↦
-          let alone : is_neither (event_at events m).side ≡ true = settled_neither _ (partner S.partners m) _ (S.settled going m told) free opens in
-          let same : event_at all m ≡ event_at events m = ap (λ (y : StampedEvent). y.view) (stamped-append events (view e ∷ []) m (omega arith)) in
-          absurd (true≢false (sym (compatible_parts w.windows all m (length events) x).sides ∙ neither_opposes (event_at all m).side (event_at all (length events)).side (ap (λ (y : EventView). is_neither y.side) same ∙ alone)))
-        ]
+            let alone : is_neither (event_at events m).side ≡ true = settled_neither _ (partner S.partners m) _ (S.settled going m told) free opens in
+            let same : event_at all m ≡ event_at events m = ap (λ (y : StampedEvent). y.view) (stamped-append events (view e ∷ []) m (omega arith)) in
+            absurd (true≢false (sym (compatible_parts w.windows all m (length events) x).sides ∙ neither_opposes (event_at all m).side (event_at all (length events)).side (ap (λ (y : EventView). is_neither y.side) same ∙ alone)))
+      ]
       | inr after ↦
-        let k : ℕ = m - w.first in
-        let place : w.first + k ≡ m = omega arith in
-        held_before view w e pushed popped S limit le N m k place (omega arith) free opens (held_at w k) refl
+          let k : ℕ = m - w.first in
+          let place : w.first + k ≡ m = omega arith in
+          held_before view w e pushed popped S limit le N m k place (omega arith) free opens (held_at w k) refl
     ]
 
 -- what is held of an event stays so, where its partner stays
@@ -227,9 +230,9 @@ grown_alone {E} view w e new pushed popped S going le A =
       held = λ k lt. subst (λ (xs : List (Option (Held E))). HoldsAt view (pushed ++ e ∷ []) q w.first (w.first + k) (get_or xs k None)) (sym A.new_is) (elim (cases_lt k (length w.held)) [
         | inl h ↦ subst (HoldsAt view (pushed ++ e ∷ []) q w.first (w.first + k)) (sym (get_or_append_left w.held (x ∷ []) None k h)) (stays_held view pushed e p q w.first (w.first + k) (held_at w k) (let c = S.count in omega arith) (lookup_alone p (w.first + k)) (S.held k h))
         | inr h ↦
-          let l : k ≡ length w.held = let c = ap length A.new_is ∙ length_push w.held x in omega arith in
-          subst (HoldsAt view (pushed ++ e ∷ []) q w.first (w.first + k)) (sym (get_or_push w.held x None k (sym l)))
-          (subst (λ (m : ℕ). IsHeld view (pushed ++ e ∷ []) q w.first m (next_held view w e None)) (let c = S.count in omega arith) (new_held view w e pushed popped S q None (get_or_push p None None (length pushed) (total ∙ long)) (λ j z. absurd (none-some j z))))
+            let l : k ≡ length w.held = let c = ap length A.new_is ∙ length_push w.held x in omega arith in
+            subst (HoldsAt view (pushed ++ e ∷ []) q w.first (w.first + k)) (sym (get_or_push w.held x None k (sym l)))
+            (subst (λ (m : ℕ). IsHeld view (pushed ++ e ∷ []) q w.first m (next_held view w e None)) (let c = S.count in omega arith) (new_held view w e pushed popped S q None (get_or_push p None None (length pushed) (total ∙ long)) (λ j z. absurd (none-some j z))))
       ]);
       popped_are = take-append-le w.first p (None ∷ []) (omega arith);
       sums = λ g like. ap (sum_by g) A.new_is ∙ sum_by_push g w.held x;
@@ -279,20 +282,20 @@ grown_joined {E} view w e new pushed popped S going le A =
       held = λ k lt. subst (λ (ys : List (Option (Held E))). HoldsAt view (pushed ++ e ∷ []) q w.first (w.first + k) (get_or ys k None)) (sym A.new_is) (elim (cases_lt k (length w.held)) [
         | inl h ↦ subst (HoldsAt view (pushed ++ e ∷ []) q w.first (w.first + k)) (sym (get_or_append_left xs (x ∷ []) None k (omega arith))) (elim (cases_eq k A.place) [
           | inl s ↦ subst (λ (m : ℕ). HoldsAt view (pushed ++ e ∷ []) q w.first (w.first + m) (get_or xs m None)) (sym s)
-            (subst (HoldsAt view (pushed ++ e ∷ []) q w.first i) (sym (get_or-set_same w.held A.place (Some changed) None A.within))
-            (changed_held view w e pushed popped S p q i A.was H (at_joined p i (length pushed) size (omega arith)) c (omega arith)))
+              (subst (HoldsAt view (pushed ++ e ∷ []) q w.first i) (sym (get_or-set_same w.held A.place (Some changed) None A.within))
+              (changed_held view w e pushed popped S p q i A.was H (at_joined p i (length pushed) size (omega arith)) c (omega arith)))
           | inr s ↦ subst (HoldsAt view (pushed ++ e ∷ []) q w.first (w.first + k)) (sym (get_or-set_other w.held A.place k (Some changed) None s))
-            (stays_held view pushed e p q w.first (w.first + k) (held_at w k) (omega arith) (at_other p i (length pushed) (w.first + k) size (λ z. s (omega arith)) (λ z. omega arith)) (S.held k h))
-          ])
+              (stays_held view pushed e p q w.first (w.first + k) (held_at w k) (omega arith) (at_other p i (length pushed) (w.first + k) size (λ z. s (omega arith)) (λ z. omega arith)) (S.held k h))
+        ])
         | inr h ↦
-          let l : k ≡ length xs = let d = ap length A.new_is ∙ length_push xs x in omega arith in
-          subst (HoldsAt view (pushed ++ e ∷ []) q w.first (w.first + k)) (sym (get_or_push xs x None k (sym l)))
-          (subst (λ (m : ℕ). IsHeld view (pushed ++ e ∷ []) q w.first m (next_held view w e (Some i))) (omega arith) (new_held view w e pushed popped S q (Some i) (at_last p i (length pushed) size) (λ j z. let same : i ≡ j = cc in omega arith)))
+            let l : k ≡ length xs = let d = ap length A.new_is ∙ length_push xs x in omega arith in
+            subst (HoldsAt view (pushed ++ e ∷ []) q w.first (w.first + k)) (sym (get_or_push xs x None k (sym l)))
+            (subst (λ (m : ℕ). IsHeld view (pushed ++ e ∷ []) q w.first m (next_held view w e (Some i))) (omega arith) (new_held view w e pushed popped S q (Some i) (at_last p i (length pushed) size) (λ j z. let same : i ≡ j = cc in omega arith)))
       ]);
       popped_are = take-append-le w.first (set p i (Some (length pushed))) (Some i ∷ []) (rw length-set (omega arith)) ∙ take-set-le w.first p i (Some (length pushed)) (omega arith);
       sums = λ g like. ap (sum_by g) A.new_is ∙ sum_by_push g xs x
-        ∙ ap (λ (m : ℕ). m + g x) (same_sum g w.held A.place (Some changed) None A.within (like A.was (Some (count_of w)) ∙ ap g (sym A.held)))
-        ∙ ap (λ (m : ℕ). sum_by g w.held + m) (like (next_held view w e None) (Some i));
+          ∙ ap (λ (m : ℕ). m + g x) (same_sum g w.held A.place (Some changed) None A.within (like A.was (Some (count_of w)) ∙ ap g (sym A.held)))
+          ∙ ap (λ (m : ℕ). sum_by g w.held + m) (like (next_held view w e None) (Some i));
     }
 
 stands : {E : Type 0} (view : E → EventView) (w : Seen E) (e : E) (new : Seen E) (pushed : List E) (popped : List (Released E)) (S : StandsFor view w pushed popped) → w.finished ≡ false → LEAST_WEIGHT ≤ (view e).weight →
@@ -310,23 +313,23 @@ stands {E} view w e new pushed popped S going le P G =
       weight_sum = P.weight_sum ∙ ap (λ (x : ℕ). x + (view e).weight) S.weight_sum ∙ sym (sum_last events (view e)) ∙ ap (λ (xs : List EventView). sum_by (λ x. x.weight) xs) all;
       held = subst (λ (f : ℕ). (k : ℕ) → k < length new.held → HoldsAt view (pushed ++ e ∷ []) G.partners f (f + k) (held_at new k)) (sym P.first) G.held;
       popped_are = subst (λ (f : ℕ). AreRecords view (pushed ++ e ∷ []) (records (take f G.partners)) popped) (sym P.first)
-        (subst (λ (xs : List (Option ℕ)). AreRecords view (pushed ++ e ∷ []) (records xs) popped) (sym G.popped_are) (all_still_told view pushed (e ∷ []) (records (take w.first S.partners)) popped S.popped_are));
+          (subst (λ (xs : List (Option ℕ)). AreRecords view (pushed ++ e ∷ []) (records xs) popped) (sym G.popped_are) (all_still_told view pushed (e ∷ []) (records (take w.first S.partners)) popped S.popped_are));
       unpopped = record {
         count = let s = G.sums (λ (x : Option (Held E)). cond (is_some x) 1 0) (λ h o. refl) in
-          let u = S.unpopped.count in
-          let l = length_push pushed e in
-          let goal : sum_by (λ (x : Option (Held E)). cond (is_some x) 1 0) new.held + sum_by events_in popped ≡ length (pushed ++ e ∷ []) = omega arith in goal;
+            let u = S.unpopped.count in
+            let l = length_push pushed e in
+            let goal : sum_by (λ (x : Option (Held E)). cond (is_some x) 1 0) new.held + sum_by events_in popped ≡ length (pushed ++ e ∷ []) = omega arith in goal;
         weight = let s = G.sums (weight_held view) (λ h o. refl) in
-          let u = S.unpopped.weight in
-          let l : sum_by (λ x. x.weight) (map view (pushed ++ e ∷ [])) ≡ sum_by (λ x. x.weight) events + (view e).weight = ap (λ (xs : List EventView). sum_by (λ x. x.weight) xs) (sym all) ∙ sum_last events (view e) in
-          let goal : sum_by (weight_held view) new.held + sum_by (weight_in view) popped ≡ sum_by (λ x. x.weight) (map view (pushed ++ e ∷ [])) = omega arith in goal;
+            let u = S.unpopped.weight in
+            let l : sum_by (λ x. x.weight) (map view (pushed ++ e ∷ [])) ≡ sum_by (λ x. x.weight) events + (view e).weight = ap (λ (xs : List EventView). sum_by (λ x. x.weight) xs) (sym all) ∙ sum_last events (view e) in
+            let goal : sum_by (weight_held view) new.held + sum_by (weight_in view) popped ≡ sum_by (λ x. x.weight) (map view (pushed ++ e ∷ [])) = omega arith in goal;
       };
       settled = λ still i lt.
-        let c = S.count in
-        let f = P.first in
-        subst (λ (x : Windows). is_settled x (map view (pushed ++ e ∷ [])) G.partners i ≡ true) (sym P.windows)
-        (subst (λ (xs : List EventView). is_settled w.windows xs G.partners i ≡ true) all
-        (settled_grows w.windows events (view e ∷ []) S.partners G.partners (heavy_more events (view e) S.heavy le) S.pairing G.pairing i (omega (arith, length-map pushed view)) (S.settled going i (omega arith))));
+          let c = S.count in
+          let f = P.first in
+          subst (λ (x : Windows). is_settled x (map view (pushed ++ e ∷ [])) G.partners i ≡ true) (sym P.windows)
+          (subst (λ (xs : List EventView). is_settled w.windows xs G.partners i ≡ true) all
+          (settled_grows w.windows events (view e ∷ []) S.partners G.partners (heavy_more events (view e) S.heavy le) S.pairing G.pairing i (omega (arith, length-map pushed view)) (S.settled going i (omega arith))));
     }
 
 pub pushed_stands : {E : Type 0} (view : E → EventView) → PushesStand view

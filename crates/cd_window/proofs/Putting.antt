@@ -1,7 +1,7 @@
 -- What the code of a push does is what a push does, and keeps what a window keeps.
-use Rattle.std.proofs.Common.{◌≡◌, ℕ, zero, suc, ◌+◌, ◌-◌, ◌<◌, ◌≤◌, ◌≢◌, ◌^◌, ◌⊎◌, inl, inr, Bool, true, false, ◌&&◌, max, List, [], ◌∷◌, ◌++◌, length, set, get_or, cond, Option, Some, None, refl, ap, sym, ◌∙◌, subst, arith, length-set}
+use Rattle.std.proofs.Common.{◌≡◌, ℕ, ◌+◌, ◌<◌, ◌≤◌, ◌≢◌, ◌^◌, inl, inr, Bool, true, false, ◌&&◌, max, List, [], ◌∷◌, ◌++◌, length, set, cond, Option, Some, None, refl, ap, sym, ◌∙◌, subst, arith, length-set}
 use Rattle.std.specs.Prelude.{is_some, is_none}
-use Rattle.std.specs.List.{sum_by, count_by}
+use Rattle.std.specs.List.{sum_by}
 use Rattle.std.proofs.lemmas.Bool.{cases_lt, cases_eq, and_parts, true≢false}
 use Rattle.std.proofs.lemmas.Option.{none-some}
 use Rattle.std.proofs.lemmas.List.{length_push, get_or_append_left, get_or_push, get_or-set_same, get_or-set_other, set-append_left}
@@ -12,9 +12,8 @@ use Rattle.cd_pairing.specs.Events.{EventView}
 use Rattle.cd_pairing.specs.Pairing.{StampedEvent, may_pair}
 use Rattle.cd_window.specs.declared.held.Held.{Held}
 use Rattle.cd_window.specs.declared.stamps.Stamp.{Stamp}
-use Rattle.cd_window.specs.Seen.{Seen, count_of, held_at, stamped, held_count, held_weight, weight_held}
-use Rattle.cd_window.specs.Pops.{IsTrimmed}
-use Rattle.cd_window.specs.Pushes.{next_held, with_partner, NoneFitsBefore, JoinsAt, StaysAlone, IsPushed}
+use Rattle.cd_window.specs.Seen.{Seen, count_of, held_at, stamped, weight_held}
+use Rattle.cd_window.specs.Pushes.{next_held, with_partner, NoneFitsBefore, IsPushed}
 use Rattle.cd_window.specs.Keeping.{StampsRise, IsMated, Keeps}
 use Rattle.cd_window.specs.Places.{with_stamp, place_at, place_fits, NothingFits, FirstFits, PutsPaired, PutsAlone, Puts}
 use Rattle.cd_window.proofs.Counting.{same_sum}
@@ -56,10 +55,10 @@ fails_at (Some x) b e h = absurd (none-some x (sym e))
 none_before : {E : Type 0} (view : E → EventView) (w : Seen E) (e : E) (next : Stamp) (limit : ℕ) → IsNext view w e next → NothingFits view w.windows w.first w.held (with_stamp (view e) next) limit → NoneFitsBefore view w e limit
 none_before {E} view w e next limit N F = record {
   none = λ k h lt at free opens.
-    let s : place_fits view w.windows (w.first + k) (Some h) (stamped view (count_of w) (next_held view w e None)) ≡ false =
+      let s : place_fits view w.windows (w.first + k) (Some h) (stamped view (count_of w) (next_held view w e None)) ≡ false =
       sym (ap (λ (o : Option (Held E)). place_fits view w.windows (w.first + k) o (stamped view (count_of w) (next_held view w e None))) at)
       ∙ sym (ap (place_fits view w.windows (w.first + k) (held_at w k)) (next_is view w e next N)) ∙ F.none k lt in
-    fails_at h.partner (may_pair w.windows (stamped view (w.first + k) h) (stamped view (count_of w) (next_held view w e None))) free s;
+      fails_at h.partner (may_pair w.windows (stamped view (w.first + k) h) (stamped view (count_of w) (next_held view w e None))) free s;
 }
 
 -- what is shown of the code of a push
@@ -85,13 +84,13 @@ mated_alone {E} first hs x M free k j h at p =
     let long : length more ≡ length hs + 1 = length_push hs (Some x) in
     elim (cases_lt k (length hs)) [
       | inl lt ↦
-        let m = M k j h (sym (get_or_append_left hs (Some x ∷ []) None k lt) ∙ at) p in
-        record { place = m.place; is = m.is; other = m.other; back = m.back; apart = m.apart; there = get_or_append_left hs (Some x ∷ []) None m.place (place_within hs m.place m.other m.there) ∙ m.there }
+          let m = M k j h (sym (get_or_append_left hs (Some x ∷ []) None k lt) ∙ at) p in
+          record { place = m.place; is = m.is; other = m.other; back = m.back; apart = m.apart; there = get_or_append_left hs (Some x ∷ []) None m.place (place_within hs m.place m.other m.there) ∙ m.there }
       | inr le ↦
-        let last : length hs ≡ k = omega arith in
-        let q : Some x ≡ Some h = sym (get_or_push hs (Some x) None k last) ∙ at in
-        let same : x ≡ h = cc in
-        absurd (none-some j (sym free ∙ ap (λ (y : Held E). y.partner) same ∙ p))
+          let last : length hs ≡ k = omega arith in
+          let q : Some x ≡ Some h = sym (get_or_push hs (Some x) None k last) ∙ at in
+          let same : x ≡ h = cc in
+          absurd (none-some j (sym free ∙ ap (λ (y : Held E). y.partner) same ∙ p))
     ]
 
 put_alone : {E : Type 0} (view : E → EventView) (w : Seen E) (count weight : ℕ) (e : E) (next : Stamp) (new : List (Option (Held E))) → Keeps view w count weight → IsNext view w e next → LEAST_WEIGHT ≤ (view e).weight →
@@ -147,27 +146,27 @@ mated_paired {E} first hs place was changed x M there free pc px k j h at p =
     elim (cases_lt k (length hs)) [
       | inl lt ↦ elim (cases_eq k place) [
         | inl z ↦
-          let q : Some changed ≡ Some h = sym (get_or-set_same hs place (Some changed) None lp) ∙ ap (place_at xs) (sym z) ∙ sym (left k lt) ∙ at in
-          let same : changed ≡ h = cc in
-          let r : Some (first + length hs) ≡ Some j = sym pc ∙ ap (λ (y : Held E). y.partner) same ∙ p in
-          let s : first + length hs ≡ j = cc in
-          record { place = length hs; is = sym s; other = x; there = last; back = px ∙ ap (λ (i : ℕ). Some (first + i)) (sym z); apart = λ y. omega arith }
+            let q : Some changed ≡ Some h = sym (get_or-set_same hs place (Some changed) None lp) ∙ ap (place_at xs) (sym z) ∙ sym (left k lt) ∙ at in
+            let same : changed ≡ h = cc in
+            let r : Some (first + length hs) ≡ Some j = sym pc ∙ ap (λ (y : Held E). y.partner) same ∙ p in
+            let s : first + length hs ≡ j = cc in
+            record { place = length hs; is = sym s; other = x; there = last; back = px ∙ ap (λ (i : ℕ). Some (first + i)) (sym z); apart = λ y. omega arith }
         | inr z ↦
-          let m = M k j h (sym (get_or-set_other hs place k (Some changed) None z) ∙ sym (left k lt) ∙ at) p in
-          let ml : m.place < length hs = place_within hs m.place m.other m.there in
-          let ne : m.place ≢ place = λ y.
+            let m = M k j h (sym (get_or-set_other hs place k (Some changed) None z) ∙ sym (left k lt) ∙ at) p in
+            let ml : m.place < length hs = place_within hs m.place m.other m.there in
+            let ne : m.place ≢ place = λ y.
             let q : Some m.other ≡ Some was = sym m.there ∙ ap (place_at hs) y ∙ there in
             let same : m.other ≡ was = cc in
             none-some (first + k) (sym free ∙ sym (ap (λ (u : Held E). u.partner) same) ∙ m.back) in
-          record { place = m.place; is = m.is; other = m.other; back = m.back; apart = m.apart; there = left m.place ml ∙ get_or-set_other hs place m.place (Some changed) None ne ∙ m.there }
-        ]
+            record { place = m.place; is = m.is; other = m.other; back = m.back; apart = m.apart; there = left m.place ml ∙ get_or-set_other hs place m.place (Some changed) None ne ∙ m.there }
+      ]
       | inr le ↦
-        let z : length hs ≡ k = omega arith in
-        let q : Some x ≡ Some h = sym last ∙ ap (place_at more) z ∙ at in
-        let same : x ≡ h = cc in
-        let r : Some (first + place) ≡ Some j = sym px ∙ ap (λ (y : Held E). y.partner) same ∙ p in
-        let s : first + place ≡ j = cc in
-        record { place = place; is = sym s; other = changed; there = left place lp ∙ get_or-set_same hs place (Some changed) None lp; back = pc ∙ ap (λ (i : ℕ). Some (first + i)) z; apart = λ y. omega arith }
+          let z : length hs ≡ k = omega arith in
+          let q : Some x ≡ Some h = sym last ∙ ap (place_at more) z ∙ at in
+          let same : x ≡ h = cc in
+          let r : Some (first + place) ≡ Some j = sym px ∙ ap (λ (y : Held E). y.partner) same ∙ p in
+          let s : first + place ≡ j = cc in
+          record { place = place; is = sym s; other = changed; there = left place lp ∙ get_or-set_same hs place (Some changed) None lp; back = pc ∙ ap (λ (i : ℕ). Some (first + i)) z; apart = λ y. omega arith }
     ]
 
 put_paired : {E : Type 0} (view : E → EventView) (w : Seen E) (count weight : ℕ) (e : E) (next : Stamp) (new : List (Option (Held E))) → Keeps view w count weight → IsNext view w e next → LEAST_WEIGHT ≤ (view e).weight →
@@ -191,7 +190,7 @@ put_paired {E} view w count weight e next new K N heavy light P =
     let ones : Option (Held E) → ℕ = λ y. cond (is_some y) 1 0 in
     let sc : sum_by ones new ≡ sum_by ones w.held + 1 = ap (sum_by ones) P.left ∙ sum_by_push ones xs (Some x) ∙ ap (λ (n : ℕ). n + 1) (same_sum ones w.held P.place (Some changed) None inside (sym (ap ones P.there))) in
     let sw : sum_by (weight_held view) new ≡ sum_by (weight_held view) w.held + (view e).weight = ap (sum_by (weight_held view)) P.left ∙ sum_by_push (weight_held view) xs (Some x)
-      ∙ ap (λ (n : ℕ). n + (view e).weight) (same_sum (weight_held view) w.held P.place (Some changed) None inside (sym (ap (weight_held view) P.there))) in
+    ∙ ap (λ (n : ℕ). n + (view e).weight) (same_sum (weight_held view) w.held P.place (Some changed) None inside (sym (ap (weight_held view) P.there))) in
     record {
       pushed = record {
         windows = refl;
@@ -208,7 +207,7 @@ put_paired {E} view w count weight e next new K N heavy light P =
           fits = sym (ap (may_pair w.windows (stamped view i P.was)) (next_is view w e next N)) ∙ parts.1;
           earlier = none_before view w e next P.place N P.fits.earlier;
           new_is = P.left ∙ ap (λ (y : Held E). xs ++ Some y ∷ []) (held_is_next view w e next (Some i) N)
-            ∙ ap (λ (n : ℕ). set w.held P.place (Some (with_partner P.was n)) ++ Some (next_held view w e (Some i)) ∷ []) N.index;
+              ∙ ap (λ (n : ℕ). set w.held P.place (Some (with_partner P.was n)) ++ Some (next_held view w e (Some i)) ∷ []) N.index;
         });
       };
       keeps = record {
@@ -216,9 +215,9 @@ put_paired {E} view w count weight e next new K N heavy light P =
         few = K.few;
         trimmed = subst (λ (ys : List (Option (Held E))). place_at ys 0 ≡ None → ys ≡ []) back (push_trimmed xs x (set_trimmed w.held P.place changed inside K.trimmed));
         rises = subst (λ (ys : List (Option (Held E))). StampsRise view 0 0 ys next.clock next.weight_sum) back
-          (rises_push view 0 0 xs w.clock w.weight_sum x (omega arith) (omega arith) (rises_same view P.place 0 0 w.held w.clock w.weight_sum P.was changed P.there refl refl refl K.rises));
+            (rises_push view 0 0 xs w.clock w.weight_sum x (omega arith) (omega arith) (rises_same view P.place 0 0 w.held w.clock w.weight_sum P.was changed P.there refl refl refl K.rises));
         mated = subst (λ (ys : List (Option (Held E))). (k j : ℕ) (h : Held E) → place_at ys k ≡ Some h → h.partner ≡ Some j → IsMated w.first ys k j) back
-          (mated_paired w.first w.held P.place P.was changed x K.mated P.there free (ap (λ (n : ℕ). Some n) N.index) refl);
+            (mated_paired w.first w.held P.place P.was changed x K.mated P.there free (ap (λ (n : ℕ). Some n) N.index) refl);
         room = omega arith;
         light = omega arith;
         counted = let k = K.counted in let goal : count + 1 ≡ sum_by ones new = omega arith in goal;

@@ -1,18 +1,18 @@
 -- Where nothing is ready, all that is released was popped.
-use Rattle.std.proofs.Common.{◌≡◌, ℕ, ◌+◌, ◌<◌, ◌≤◌, Bool, true, false, not, ◌||◌, List, [], length, take, map, Option, Some, None, refl, ap, sym, ◌∙◌, subst, arith, inl, inr}
+use Rattle.std.proofs.Common.{◌≡◌, ℕ, ◌+◌, ◌<◌, ◌≤◌, Bool, true, false, not, ◌||◌, List, length, take, map, Option, Some, None, refl, ap, sym, ◌∙◌, subst, arith, inl, inr}
 use Rattle.std.specs.Prelude.{is_some}
 use Rattle.std.proofs.lemmas.Bool.{cases_lt, true≢false}
 use Rattle.std.proofs.lemmas.List.{length-map}
 use Rattle.cd_pairing.specs.Events.{EventView, event_at}
 use Rattle.cd_pairing.specs.Matching.{partner}
-use Rattle.cd_pairing.specs.Pairing.{StampedEvent, IsPairing}
-use Rattle.cd_pairing.specs.Settling.{is_neither, is_settled, settled_count, is_window_open}
+use Rattle.cd_pairing.specs.Pairing.{StampedEvent}
+use Rattle.cd_pairing.specs.Settling.{is_neither, is_settled, settled_count}
 use Rattle.cd_pairing.specs.Records.{records, released_records}
 use Rattle.cd_pairing.proofs.Records.{settled_least, settled_all, settled_le}
 use Rattle.cd_window.specs.declared.released.Released.{Released}
 use Rattle.cd_window.specs.declared.held.Held.{Held}
-use Rattle.cd_window.specs.Seen.{Seen, held_at, is_open, is_ready, is_front_ready}
-use Rattle.cd_window.specs.History.{StandsFor, AreRecords, IsHeld}
+use Rattle.cd_window.specs.Seen.{Seen, held_at, is_open, is_front_ready}
+use Rattle.cd_window.specs.History.{StandsFor, AreRecords}
 use Rattle.cd_window.specs.Pops.{IsTrimmed}
 use Rattle.cd_window.specs.Laws.{DueIsPopped}
 use Rattle.cd_window.proofs.Popping.{first_within, same_partners}
@@ -50,4 +50,4 @@ due_is_popped {E} view w pushed popped p S trim idle going P =
           (settled_all f (length events) 0 (w.first + 0) (omega arith) (omega arith)) (held_at w 0) refl idle)
     ] in
     subst (λ (x : List (Option ℕ)). AreRecords view pushed (released_records w.windows events x) popped) (same_partners view w pushed popped p S P)
-      (subst (λ (x : ℕ). AreRecords view pushed (records (take x q)) popped) same S.popped_are)
+    (subst (λ (x : ℕ). AreRecords view pushed (records (take x q)) popped) same S.popped_are)

@@ -1,5 +1,5 @@
 -- The stamps of what is held rise, as events come and go, and bound what is held.
-use Rattle.std.proofs.Common.{◌≡◌, ℕ, zero, suc, ◌+◌, ◌-◌, ◌<◌, ◌≤◌, ◌⊎◌, inl, inr, Bool, true, false, not, ◌&&◌, ◌||◌, leb, ltb, List, [], ◌∷◌, ◌++◌, length, drop, set, get_or, cond, Option, Some, None, refl, ap, sym, ◌∙◌, subst, arith}
+use Rattle.std.proofs.Common.{◌≡◌, ℕ, zero, suc, ◌+◌, ◌-◌, ◌<◌, ◌≤◌, Bool, true, false, not, ◌&&◌, ◌||◌, leb, ltb, List, [], ◌∷◌, ◌++◌, drop, set, get_or, Option, Some, None, refl, ap, sym, ◌∙◌, arith}
 use Rattle.std.specs.Prelude.{is_some}
 use Rattle.std.specs.List.{sum_by, count_by}
 use Rattle.std.proofs.lemmas.Bool.{true≢false, and_parts, ltb-true, leb-true}
@@ -12,7 +12,6 @@ use Rattle.cd_pairing.specs.Settling.{is_neither}
 use Rattle.cd_window.specs.declared.held.Held.{Held}
 use Rattle.cd_window.specs.Seen.{Seen, count_of, held_at, is_open, is_ready, is_front_ready, held_count, held_weight, weight_held}
 use Rattle.cd_window.specs.Keeping.{StampsRise, Keeps}
-use Rattle.cd_window.proofs.Counting.{front_gone}
 
 -- they rise from anything lower too
 pub rises_lower : {E : Type 0} (view : E → EventView) (c s c' s' : ℕ) (hs : List (Option (Held E))) (lc ls : ℕ) → c' ≤ c → s' ≤ s → StampsRise view c s hs lc ls → StampsRise view c' s' hs lc ls

@@ -1,17 +1,16 @@
 -- What the code of a pop does is what a pop does, and keeps what a window keeps.
-use Rattle.std.proofs.Common.{◌≡◌, ℕ, zero, suc, ◌+◌, ◌-◌, ◌<◌, ◌≤◌, ◌≢◌, ◌⊎◌, inl, inr, Bool, true, false, List, [], ◌∷◌, length, drop, set, get_or, cond, Option, Some, None, refl, ap, sym, ◌∙◌, subst, arith, length-set, length-drop}
+use Rattle.std.proofs.Common.{◌≡◌, ℕ, zero, suc, ◌+◌, ◌-◌, ◌<◌, ◌≤◌, ◌≢◌, inl, inr, true, List, [], ◌∷◌, length, drop, set, get_or, cond, Option, Some, None, refl, ap, sym, ◌∙◌, subst, arith, length-set, length-drop}
 use Rattle.std.specs.Prelude.{is_some}
-use Rattle.std.specs.List.{sum_by, count_by}
+use Rattle.std.specs.List.{sum_by}
 use Rattle.std.proofs.lemmas.Bool.{cases_lt, cases_eq}
 use Rattle.std.proofs.lemmas.Option.{none-some}
 use Rattle.std.proofs.lemmas.List.{get_or-drop, get_or-set_same, get_or-set_other, drop-set-lt}
 use Rattle.std.proofs.lemmas.List.Sums.{sum_by-set, sum_by-cons}
 use Rattle.cd_pairing.specs.Events.{EventView}
 use Rattle.cd_window.specs.declared.released.Released.{Released}
-use Rattle.cd_window.specs.declared.released.Released.TheVariants.{One}
 use Rattle.cd_window.specs.declared.held.Held.{Held}
-use Rattle.cd_window.specs.Seen.{Seen, count_of, held_at, is_ready, held_count, held_weight, weight_held}
-use Rattle.cd_window.specs.Pops.{IsTrimmed, IsLeft, in_order, PopsOne, PopsPair, IsPopped}
+use Rattle.cd_window.specs.Seen.{Seen, is_ready, held_count, held_weight, weight_held}
+use Rattle.cd_window.specs.Pops.{IsLeft, IsPopped}
 use Rattle.cd_window.specs.History.{events_in, weight_in}
 use Rattle.cd_window.specs.Keeping.{StampsRise, IsMated, Keeps}
 use Rattle.cd_window.specs.Places.{TakesOne, TakesPair, Takes, Trims, place_at}
@@ -47,7 +46,7 @@ left {E} w rest mid new gone lt em T =
       within = omega arith;
       empty = λ k low high. sym (get_or-set_other rest 0 k None None (λ z. omega arith)) ∙ ap (λ (xs : List (Option (Held E))). place_at xs k) (sym em) ∙ T.empty k (omega arith);
       new_is = ap (λ (n : ℕ). let x : Seen E = record w { first = w.first + n; held = new } in x) e
-        ∙ ap (λ (xs : List (Option (Held E))). let x : Seen E = record w { first = w.first + (1 + (gone - 1)); held = xs } in x) is;
+          ∙ ap (λ (xs : List (Option (Held E))). let x : Seen E = record w { first = w.first + (1 + (gone - 1)); held = xs } in x) is;
       trimmed = T.trimmed;
     }
 
@@ -136,13 +135,16 @@ takes_one {E} view w count weight r mid new gone K ready P T =
         few = K.few;
         trimmed = T.trimmed;
         rises = subst (λ (xs : List (Option (Held E))). StampsRise view 0 0 xs w.clock w.weight_sum) (sym T.left)
-          (rises_drop view gone 0 0 mid w.clock w.weight_sum (subst (λ (xs : List (Option (Held E))). StampsRise view 0 0 xs w.clock w.weight_sum) (sym P.left) (rises_none view 0 0 0 w.held w.clock w.weight_sum K.rises)));
+            (rises_drop view gone 0 0 mid w.clock w.weight_sum (subst (λ (xs : List (Option (Held E))). StampsRise view 0 0 xs w.clock w.weight_sum) (sym P.left) (rises_none view 0 0 0 w.held w.clock w.weight_sum K.rises)));
         mated = mated_left w.first w.held w.held mid new gone K.mated (λ i x e. e)
-          (λ m i x h low here there p. (there, λ z.
-            let front : Some P.was ≡ Some x = sym P.held ∙ ap (place_at w.held) (sym z) ∙ there in
-            let same : P.was ≡ x = cc in
-            none-some (w.first + i) (sym P.free ∙ ap (λ (y : Held E). y.partner) same ∙ p)))
-          P.left some T;
+            (λ m i x h low here there p. (
+              there,
+              λ z.
+                  let front : Some P.was ≡ Some x = sym P.held ∙ ap (place_at w.held) (sym z) ∙ there in
+                  let same : P.was ≡ x = cc in
+                  none-some (w.first + i) (sym P.free ∙ ap (λ (y : Held E). y.partner) same ∙ p),
+            ))
+            P.left some T;
         room = omega arith;
         light = K.light;
         counted = omega arith;
@@ -192,31 +194,34 @@ takes_pair {E} view w count weight r mid new gone K ready P T =
         few = K.few;
         trimmed = T.trimmed;
         rises = subst (λ (xs : List (Option (Held E))). StampsRise view 0 0 xs w.clock w.weight_sum) (sym T.left)
-          (rises_drop view gone 0 0 mid w.clock w.weight_sum (subst (λ (xs : List (Option (Held E))). StampsRise view 0 0 xs w.clock w.weight_sum) (sym P.left)
+            (rises_drop view gone 0 0 mid w.clock w.weight_sum (subst (λ (xs : List (Option (Held E))). StampsRise view 0 0 xs w.clock w.weight_sum) (sym P.left)
             (rises_none view 0 0 0 rest w.clock w.weight_sum (rises_none view P.place 0 0 w.held w.clock w.weight_sum K.rises))));
         mated = mated_left w.first w.held rest mid new gone K.mated
-          (λ i x e. elim (cases_eq i P.place) [
-            | inl z ↦ absurd (none-some x (sym (get_or-set_same w.held P.place None None inside) ∙ ap (place_at rest) (sym z) ∙ e))
-            | inr z ↦ sym (get_or-set_other w.held P.place i None None z) ∙ e
-          ])
-          (λ m i x h low here there p. (elim (cases_eq m P.place) [
-            | inl z ↦
-              let n : w.first + P.place ≡ w.first + mate.place = mate.is in
-              let n' : mate.place ≡ P.place = omega arith in
-              let q : Some mate.other ≡ Some x = sym mate.there ∙ ap (place_at w.held) n' ∙ ap (place_at w.held) (sym z) ∙ there in
-              let same : mate.other ≡ x = cc in
-              let r : Some (w.first + 0) ≡ Some (w.first + i) = sym mate.back ∙ ap (λ (y : Held E). y.partner) same ∙ p in
-              let s : w.first + 0 ≡ w.first + i = cc in
-              absurd (omega arith)
-            | inr z ↦ get_or-set_other w.held P.place m None None z ∙ there
-          ], λ z.
-            let q : Some P.was ≡ Some x = sym P.held ∙ ap (place_at w.held) (sym z) ∙ there in
-            let same : P.was ≡ x = cc in
-            let r : Some (w.first + P.place) ≡ Some (w.first + i) = sym P.paired ∙ ap (λ (y : Held E). y.partner) same ∙ p in
-            let s : w.first + P.place ≡ w.first + i = cc in
-            let t : P.place ≡ i = omega arith in
-            none-some h (sym (get_or-set_same w.held P.place None None inside) ∙ ap (place_at rest) t ∙ here)))
-          P.left some T;
+            (λ i x e. elim (cases_eq i P.place) [
+              | inl z ↦ absurd (none-some x (sym (get_or-set_same w.held P.place None None inside) ∙ ap (place_at rest) (sym z) ∙ e))
+              | inr z ↦ sym (get_or-set_other w.held P.place i None None z) ∙ e
+            ])
+            (λ m i x h low here there p. (
+              elim (cases_eq m P.place) [
+                | inl z ↦
+                    let n : w.first + P.place ≡ w.first + mate.place = mate.is in
+                    let n' : mate.place ≡ P.place = omega arith in
+                    let q : Some mate.other ≡ Some x = sym mate.there ∙ ap (place_at w.held) n' ∙ ap (place_at w.held) (sym z) ∙ there in
+                    let same : mate.other ≡ x = cc in
+                    let r : Some (w.first + 0) ≡ Some (w.first + i) = sym mate.back ∙ ap (λ (y : Held E). y.partner) same ∙ p in
+                    let s : w.first + 0 ≡ w.first + i = cc in
+                    absurd (omega arith)
+                | inr z ↦ get_or-set_other w.held P.place m None None z ∙ there
+              ],
+              λ z.
+                  let q : Some P.was ≡ Some x = sym P.held ∙ ap (place_at w.held) (sym z) ∙ there in
+                  let same : P.was ≡ x = cc in
+                  let r : Some (w.first + P.place) ≡ Some (w.first + i) = sym P.paired ∙ ap (λ (y : Held E). y.partner) same ∙ p in
+                  let s : w.first + P.place ≡ w.first + i = cc in
+                  let t : P.place ≡ i = omega arith in
+                  none-some h (sym (get_or-set_same w.held P.place None None inside) ∙ ap (place_at rest) t ∙ here),
+            ))
+            P.left some T;
         room = omega arith;
         light = K.light;
         counted = omega arith;

@@ -1,8 +1,8 @@
 -- What a window stands for after each step of a pop.
-use Rattle.std.proofs.Common.{◌≡◌, ℕ, zero, suc, ◌+◌, ◌-◌, ◌<◌, ◌≤◌, ◌⊎◌, inl, inr, Bool, true, false, not, ◌||◌, ltb, cond, List, [], ◌∷◌, ◌++◌, length, take, drop, map, set, get_or, Option, Some, None, refl, ap, sym, ◌∙◌, subst, arith, length-set, length-drop}
+use Rattle.std.proofs.Common.{◌≡◌, ℕ, ◌+◌, ◌<◌, ◌≤◌, inl, inr, Bool, true, false, ◌||◌, cond, List, [], ◌∷◌, ◌++◌, length, take, drop, map, set, get_or, Option, Some, None, refl, ap, sym, ◌∙◌, subst, arith, length-set, length-drop}
 use Rattle.std.specs.Prelude.{is_some, slice_get}
 use Rattle.std.specs.List.{sum_by}
-use Rattle.std.proofs.lemmas.Bool.{cases_lt, cases_eq, lt-ltb, le-ltb, true≢false, or_cases}
+use Rattle.std.proofs.lemmas.Bool.{cases_lt, cases_eq, lt-ltb, le-ltb}
 use Rattle.std.proofs.lemmas.Option.{none-some}
 use Rattle.std.proofs.lemmas.List.{length-map, length-take-le, take_more, get_or-drop, get_or-set_same, get_or-set_other, append-nil}
 use Rattle.cd_pairing.specs.Events.{EventView}
@@ -11,7 +11,7 @@ use Rattle.cd_pairing.specs.Settling.{is_settled}
 use Rattle.cd_pairing.specs.Records.{Record, pair, single, records, records_from}
 use Rattle.cd_pairing.proofs.Records.{records-append}
 use Rattle.cd_window.specs.declared.released.Released.{Released}
-use Rattle.cd_window.specs.declared.released.Released.TheVariants.{Pair, One}
+use Rattle.cd_window.specs.declared.released.Released.TheVariants.{One}
 use Rattle.cd_window.specs.declared.held.Held.{Held}
 use Rattle.cd_window.specs.Seen.{Seen, held_at, weight_held}
 use Rattle.cd_window.specs.History.{IsRecord, AreRecords, IsHeld, HoldsAt, StandsFor, HeldIsUnpopped, events_in, weight_in}
@@ -66,7 +66,7 @@ moves {E} view w rest pushed popped popped' S some long later told here unpopped
       clock = S.clock;
       weight_sum = S.weight_sum;
       held = λ k lt. subst (HoldsAt view pushed S.partners (w.first + 1) (w.first + 1 + k)) (sym (get_or-drop 1 rest k None))
-        (subst (λ (i : ℕ). HoldsAt view pushed S.partners (w.first + 1) i (get_or rest (1 + k) None)) (let e : w.first + (1 + k) ≡ w.first + 1 + k = omega arith in e) (later (1 + k) (omega arith) (omega arith)));
+          (subst (λ (i : ℕ). HoldsAt view pushed S.partners (w.first + 1) i (get_or rest (1 + k) None)) (let e : w.first + (1 + k) ≡ w.first + 1 + k = omega arith in e) (later (1 + k) (omega arith) (omega arith)));
       popped_are = told;
       unpopped = unpopped;
       settled = λ going i lt. elim (cases_lt i w.first) [
@@ -89,14 +89,14 @@ skips {E} view w pushed popped S some none =
     let before : was.0 < w.first = was.1 in
     let t = S.pairing.total in
     moves view w w.held pushed popped popped S some refl
-      (λ k a b. holds_on view pushed p w.first (w.first + k) (held_at w k) S.pairing.back (λ e. let both : Some was.0 ≡ Some (w.first + k) = sym at ∙ e in let same : was.0 ≡ w.first + k = cc in omega arith) (S.held k b))
-      (subst (λ (rs : List Record). AreRecords view pushed rs popped) (sym (records_more p w.first (omega (arith, length-map pushed view)) ∙ ap (λ (o : Option ℕ). records (take w.first p) ++ records_from w.first (o ∷ [])) at
-        ∙ ap (λ (rs : List Record). records (take w.first p) ++ rs) (no_record w.first was.0 before) ∙ append-nil (records (take w.first p)))) S.popped_are)
-      (λ going. settled_paired _ (partner p w.first) _ was.0 at)
-      (record {
-        count = ap (λ (n : ℕ). n + sum_by events_in popped) (nothing_gone (λ (x : Option (Held E)). cond (is_some x) 1 0) w.held some none refl) ∙ S.unpopped.count;
-        weight = ap (λ (n : ℕ). n + sum_by (weight_in view) popped) (nothing_gone (weight_held view) w.held some none refl) ∙ S.unpopped.weight;
-      })
+    (λ k a b. holds_on view pushed p w.first (w.first + k) (held_at w k) S.pairing.back (λ e. let both : Some was.0 ≡ Some (w.first + k) = sym at ∙ e in let same : was.0 ≡ w.first + k = cc in omega arith) (S.held k b))
+    (subst (λ (rs : List Record). AreRecords view pushed rs popped) (sym (records_more p w.first (omega (arith, length-map pushed view)) ∙ ap (λ (o : Option ℕ). records (take w.first p) ++ records_from w.first (o ∷ [])) at
+    ∙ ap (λ (rs : List Record). records (take w.first p) ++ rs) (no_record w.first was.0 before) ∙ append-nil (records (take w.first p)))) S.popped_are)
+    (λ going. settled_paired _ (partner p w.first) _ was.0 at)
+    (record {
+      count = ap (λ (n : ℕ). n + sum_by events_in popped) (nothing_gone (λ (x : Option (Held E)). cond (is_some x) 1 0) w.held some none refl) ∙ S.unpopped.count;
+      weight = ap (λ (n : ℕ). n + sum_by (weight_in view) popped) (nothing_gone (weight_held view) w.held some none refl) ∙ S.unpopped.weight;
+    })
 
 -- a front that stands alone
 pub tells_one : {E : Type 0} (view : E → EventView) (w : Seen E) (h : Held E) (pushed : List E) (popped : List (Released E)) (S : StandsFor view w pushed popped) → 0 < length w.held → held_at w 0 ≡ Some h → h.partner ≡ None →
@@ -109,14 +109,14 @@ tells_one {E} view w h pushed popped S some here free settled =
     let H : IsHeld view pushed p w.first (w.first + 0) h = subst (HoldsAt view pushed p w.first (w.first + 0)) here (S.held 0 some) in
     let at : partner p w.first ≡ None = ap (partner p) (sym z) ∙ sym H.partner ∙ free in
     moves view w w.held pushed popped (popped ++ One w.first h.event ∷ []) S some refl
-      (λ k a b. holds_on view pushed p w.first (w.first + k) (held_at w k) S.pairing.back (λ e. none-some (w.first + k) (sym at ∙ e)) (S.held k b))
-      (subst (λ (rs : List Record). AreRecords view pushed rs (popped ++ One w.first h.event ∷ [])) (sym (records_more p w.first (omega (arith, length-map pushed view)) ∙ ap (λ (o : Option ℕ). records (take w.first p) ++ records_from w.first (o ∷ [])) at))
-        (told_more view pushed (records (take w.first p)) popped (single w.first) (One w.first h.event) S.popped_are (refl, subst (λ (i : ℕ). slice_get pushed i ≡ Some h.event) z H.event)))
-      settled
-      (record {
-        count = one_gone (λ (x : Option (Held E)). cond (is_some x) 1 0) events_in w.held h popped (One w.first h.event) (length pushed) some here refl S.unpopped.count;
-        weight = one_gone (weight_held view) (weight_in view) w.held h popped (One w.first h.event) (sum_by (λ x. x.weight) (map view pushed)) some here refl S.unpopped.weight;
-      })
+    (λ k a b. holds_on view pushed p w.first (w.first + k) (held_at w k) S.pairing.back (λ e. none-some (w.first + k) (sym at ∙ e)) (S.held k b))
+    (subst (λ (rs : List Record). AreRecords view pushed rs (popped ++ One w.first h.event ∷ [])) (sym (records_more p w.first (omega (arith, length-map pushed view)) ∙ ap (λ (o : Option ℕ). records (take w.first p) ++ records_from w.first (o ∷ [])) at))
+    (told_more view pushed (records (take w.first p)) popped (single w.first) (One w.first h.event) S.popped_are (refl, subst (λ (i : ℕ). slice_get pushed i ≡ Some h.event) z H.event)))
+    settled
+    (record {
+      count = one_gone (λ (x : Option (Held E)). cond (is_some x) 1 0) events_in w.held h popped (One w.first h.event) (length pushed) some here refl S.unpopped.count;
+      weight = one_gone (weight_held view) (weight_in view) w.held h popped (One w.first h.event) (sum_by (λ x. x.weight) (map view pushed)) some here refl S.unpopped.weight;
+    })
 
 -- a front that stands with a later event, which is not held from then on
 pub tells_pair : {E : Type 0} (view : E → EventView) (w : Seen E) (h other : Held E) (place : ℕ) (told : Released E) (pushed : List E) (popped : List (Released E)) (S : StandsFor view w pushed popped) → 0 < length w.held → place < length w.held → held_at w 0 ≡ Some h →
@@ -135,16 +135,16 @@ tells_pair {E} view w h other place told pushed popped S some inside here there 
       | inr x ↦ let e : j ≡ w.first = omega arith in absurd (S.pairing.apart w.first (at ∙ ap (λ (y : ℕ). Some y) e))
     ] in
     moves view w (set w.held place None) pushed popped (popped ++ told ∷ []) S some (length-set w.held place None)
-      (λ k a b. elim (cases_eq k place) [
-        | inl q ↦ subst (λ (m : ℕ). HoldsAt view pushed p (w.first + 1) (w.first + m) (get_or (set w.held place None) m None)) (sym q)
+    (λ k a b. elim (cases_eq k place) [
+      | inl q ↦ subst (λ (m : ℕ). HoldsAt view pushed p (w.first + 1) (w.first + m) (get_or (set w.held place None) m None)) (sym q)
           (subst (HoldsAt view pushed p (w.first + 1) j) (sym (get_or-set_same w.held place None None inside)) (w.first, let l : w.first < w.first + 1 = omega arith in l, S.pairing.back w.first j at))
-        | inr q ↦ subst (HoldsAt view pushed p (w.first + 1) (w.first + k)) (sym (get_or-set_other w.held place k None None q))
+      | inr q ↦ subst (HoldsAt view pushed p (w.first + 1) (w.first + k)) (sym (get_or-set_other w.held place k None None q))
           (holds_on view pushed p w.first (w.first + k) (held_at w k) S.pairing.back (λ e. let both : Some j ≡ Some (w.first + k) = sym at ∙ e in let same : j ≡ w.first + k = cc in q (omega arith)) (S.held k b))
-      ])
-      (subst (λ (rs : List Record). AreRecords view pushed rs (popped ++ told ∷ [])) (sym (records_more p w.first (omega (arith, length-map pushed view)) ∙ ap (λ (o : Option ℕ). records (take w.first p) ++ records_from w.first (o ∷ [])) at ∙ ap (λ (rs : List Record). records (take w.first p) ++ rs) (one_pair w.first j later)))
-        (told_more view pushed (records (take w.first p)) popped (pair w.first j) told S.popped_are is_told))
-      (λ going. settled_paired _ (partner p w.first) _ j at)
-      (record {
-        count = pair_gone (λ (x : Option (Held E)). cond (is_some x) 1 0) events_in w.held h other place popped told (length pushed) some inside (λ z. omega arith) here there refl (sym two) S.unpopped.count;
-        weight = pair_gone (weight_held view) (weight_in view) w.held h other place popped told (sum_by (λ x. x.weight) (map view pushed)) some inside (λ z. omega arith) here there refl (sym heavy) S.unpopped.weight;
-      })
+    ])
+    (subst (λ (rs : List Record). AreRecords view pushed rs (popped ++ told ∷ [])) (sym (records_more p w.first (omega (arith, length-map pushed view)) ∙ ap (λ (o : Option ℕ). records (take w.first p) ++ records_from w.first (o ∷ [])) at ∙ ap (λ (rs : List Record). records (take w.first p) ++ rs) (one_pair w.first j later)))
+    (told_more view pushed (records (take w.first p)) popped (pair w.first j) told S.popped_are is_told))
+    (λ going. settled_paired _ (partner p w.first) _ j at)
+    (record {
+      count = pair_gone (λ (x : Option (Held E)). cond (is_some x) 1 0) events_in w.held h other place popped told (length pushed) some inside (λ z. omega arith) here there refl (sym two) S.unpopped.count;
+      weight = pair_gone (weight_held view) (weight_in view) w.held h other place popped told (sum_by (λ x. x.weight) (map view pushed)) some inside (λ z. omega arith) here there refl (sym heavy) S.unpopped.weight;
+    })

@@ -24,11 +24,12 @@ FinishedTellsAll {E} view = (w : Seen E) (pushed : List E) (popped : List (Relea
     StandsFor view w pushed popped → IsPairing w.windows (map view pushed) p →
     AreFirstRecords view pushed (records p) popped × (w.held ≡ [] → AreRecords view pushed (records p) popped)
 
--- where no record is ready before the end is told, all that is released was popped
+-- where no record is ready, all that is due was popped: what is released before the end is told, and all records after
 abbrev pub DueIsPopped : {E : Type 0} → (E → EventView) → Type 0
 DueIsPopped {E} view = (w : Seen E) (pushed : List E) (popped : List (Released E)) (p : List (Option ℕ)) →
-    StandsFor view w pushed popped → IsTrimmed w → is_ready view w ≡ false → w.finished ≡ false →
-    IsPairing w.windows (map view pushed) p → AreRecords view pushed (released_records w.windows (map view pushed) p) popped
+    StandsFor view w pushed popped → IsTrimmed w → is_ready view w ≡ false → IsPairing w.windows (map view pushed) p →
+    (w.finished ≡ false → AreRecords view pushed (released_records w.windows (map view pushed) p) popped)
+        × (w.finished ≡ true → AreRecords view pushed (records p) popped)
 
 -- what a window stands for after a push
 abbrev pub PushesStand : {E : Type 0} → (E → EventView) → Type 0
@@ -53,4 +54,4 @@ abbrev pub OpenWereOpen : {E : Type 0} → (E → EventView) → Type 0
 OpenWereOpen {E} view = (w : Seen E) (e : E) (new : Seen E) → IsPushed view w e new → (k : ℕ) (h : Held E) →
     is_open view new k h ≡ true →
     (is_in_window w.windows (stamped view (w.first + k) h) (stamped view (count_of w) (next_held view w e None)) ≡ true)
-        × (is_open view w k h ≡ true)
+    × (is_open view w k h ≡ true)

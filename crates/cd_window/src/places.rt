@@ -58,7 +58,7 @@ fn earliest_fit<E: Keyed>(
     requires { first + length places.now.items < 2 ^ 63 }
     ensures { MatchOption result
         (NothingFits E.view windows.now first places.now.items (with_stamp (E.view event.now) next)
-            (length places.now.items))
+        (length places.now.items))
         (FirstFits E.view windows.now first places.now.items (with_stamp (E.view event.now) next)) }
 {
     'places: for k in 0..places.len() {
@@ -138,7 +138,9 @@ pub(crate) fn put<E: Keyed + Drop>(
     ensures unchanged { OnErr result (places.new.items ≡ places.old.items) }
 {
     let Stamp {
-        clock, weight_sum, ..
+        clock,
+        weight_sum,
+        ..
     } = next;
     match earliest_fit(windows, first, places, &event, next) {
         None => hold(
@@ -215,7 +217,7 @@ fn take_pair<E: Keyed>(
     ensures { (h : _) (o : _) → place_at places.old.items 0 ≡ Some h →
         place_at places.old.items place ≡ Some o →
         (result ≡ in_order (E.view h.event).side first h.event o.event)
-            × (places.new.items ≡ slice_set (slice_set places.old.items place None) 0 None) }
+        × (places.new.items ≡ slice_set (slice_set places.old.items place None) 0 None) }
 {
     let other = take_at(places, place);
     let front = take_at(places, 0);

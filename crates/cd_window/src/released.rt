@@ -48,7 +48,9 @@ pub(crate) fn weight_in<E: Keyed>(released: &Released<E>) -> u64
 {
     match released {
         Released::Pair {
-            query, response, ..
+            query,
+            response,
+            ..
         } => query.weight() + response.weight(),
         Released::One { event, .. } => event.weight(),
     }

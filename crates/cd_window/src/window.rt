@@ -45,21 +45,21 @@ impl<E: Keyed> Model for Window<E> {
     ghost coded = { seen_code E.code };
 
     ghost view = { λ a. record {
-        windows = a.windows;
-        finished = a.finished;
-        first = a.first;
-        clock = a.clock;
-        weight_sum = a.weight_sum;
-        held = a.places.items;
+      windows = a.windows;
+      finished = a.finished;
+      first = a.first;
+      clock = a.clock;
+      weight_sum = a.weight_sum;
+      held = a.places.items;
     } };
 
     ghost invariant = { λ a. Keeps E.view (record {
-        windows = a.windows;
-        finished = a.finished;
-        first = a.first;
-        clock = a.clock;
-        weight_sum = a.weight_sum;
-        held = a.places.items;
+      windows = a.windows;
+      finished = a.finished;
+      first = a.first;
+      clock = a.clock;
+      weight_sum = a.weight_sum;
+      held = a.places.items;
     }) a.count a.weight };
 }
 

@@ -1,4 +1,4 @@
-use Rattle.std.proofs.Common.{◌≡◌, ℕ, ◌+◌, ◌-◌, ◌<◌, length, set, Some, None, ap, ◌∙◌, arith, rules, inl, inr}
+use Rattle.std.proofs.Common.{◌≡◌, ℕ, ◌-◌, set, Some, None, ap, ◌∙◌, subst, arith, rules, inl, inr}
 use Rattle.cd_window.specs.Places.{place_at}
 use Rattle.cd_window.proofs.Popped.{place_within}
 use Rattle.cd_window.proofs.places.take_front.Goals as goal
@@ -51,5 +51,5 @@ returns-in-Some-partner g c =
       there = m.there;
       apart = m.apart;
       result_is = t.0;
-      left = t.1 ∙ ap (λ (n : ℕ). set (set c.args.places.now.items n None) 0 None) e;
+      left = subst (λ (n : ℕ). c.take_pair.new.places.items ≡ set (set c.args.places.now.items n None) 0 None) e t.1;
     })

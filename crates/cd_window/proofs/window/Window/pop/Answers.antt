@@ -1,4 +1,4 @@
-use Rattle.std.proofs.Common.{◌≡◌, ℕ, ◌+◌, ◌-◌, ◌<◌, ◌≤◌, true, Some, ap, sym, ◌∙◌, subst, arith, rules}
+use Rattle.std.proofs.Common.{◌≡◌, ℕ, ◌-◌, true, Some, ap, sym, ◌∙◌, subst, arith, rules}
 use Rattle.cd_window.specs.Seen.{Seen, is_ready}
 use Rattle.cd_window.specs.Pops.{IsPopped}
 use Rattle.cd_window.specs.History.{StandsFor, events_in}
@@ -47,7 +47,7 @@ invariant_of-self g c =
     let ready : is_ready g.E.Keyed.view w ≡ true = subst (λ x. is_ready g.E.Keyed.view x ≡ true) (sym c.self.view_is) (sym c.ready.ensures ∙ is) in
     let F = pop_facts g.E.Keyed.view w i.count i.weight c.take_front-record.result c.take_front-record.new.places.items c.trim.new.places.items c.trim.result c.self.invariant ready c.take_front-record.ensures c.trim.ensures in
     subst (λ n. Keeps g.E.Keyed.view (after w c.trim.result c.trim.new.places.items) n (i.weight - c.weight_in.result)) (ap (λ (n : ℕ). i.count - n) (sym c.events_in.ensures))
-      (subst (λ n. Keeps g.E.Keyed.view (after w c.trim.result c.trim.new.places.items) (i.count - events_in c.take_front-record.result) (i.weight - n)) (sym c.weight_in.ensures) F.keeps)
+    (subst (λ n. Keeps g.E.Keyed.view (after w c.trim.result c.trim.new.places.items) (i.count - events_in c.take_front-record.result) (i.weight - n)) (sym c.weight_in.ensures) F.keeps)
 
 pub returns-clause-popped : goal.returns-clause-popped
 returns-clause-popped g c =
@@ -66,4 +66,4 @@ returns-clause-stands g c =
     let ready : is_ready g.E.Keyed.view w ≡ true = subst (λ x. is_ready g.E.Keyed.view x ≡ true) (sym c.self.view_is) (sym c.ready.ensures ∙ is) in
     let F = pop_facts g.E.Keyed.view w i.count i.weight c.take_front-record.result c.take_front-record.new.places.items c.trim.new.places.items c.trim.result c.self.invariant ready c.take_front-record.ensures c.trim.ensures in
     λ pushed popped S. popped_stands g.E.Keyed.view w (Some c.take_front-record.result) (after w c.trim.result c.trim.new.places.items) pushed popped
-      (subst (λ x. StandsFor g.E.Keyed.view x pushed popped) (sym c.self.view_is) S) F.popped
+    (subst (λ x. StandsFor g.E.Keyed.view x pushed popped) (sym c.self.view_is) S) F.popped

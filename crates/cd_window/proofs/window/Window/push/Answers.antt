@@ -56,4 +56,4 @@ returns-clause-stands g c =
     let light = subst (λ x. x.weight_sum + (g.E.Keyed.view c.args.event).weight < 2 ^ 63) (sym c.self.view_is) c.requires.light in
     let F = push_facts g.E.Keyed.view w i.count i.weight c.args.event next c.put.new.places.items c.self.invariant N c.requires.heavy light c.in_default.ensures.put in
     λ pushed popped S. pushed_stands g.E.Keyed.view w c.args.event (grown w next c.put.new.places.items) pushed popped
-      (subst (λ x. StandsFor g.E.Keyed.view x pushed popped) (sym c.self.view_is) S) (subst (λ x. x.finished ≡ false) (sym c.self.view_is) c.requires.going) c.requires.heavy F.pushed
+    (subst (λ x. StandsFor g.E.Keyed.view x pushed popped) (sym c.self.view_is) S) (subst (λ x. x.finished ≡ false) (sym c.self.view_is) c.requires.going) c.requires.heavy F.pushed
