@@ -1,12 +1,10 @@
 -- The numbers that the parts of a list hold, by how far the parts reach from each.
-use Rattle.std.proofs.Common.{◌≡◌, ℕ, ◌+◌, ◌-◌, ◌<◌, ◌≤◌, max, min, ◌≢◌, eqb, ltb, leb, Bool, true, false, ◌&&◌, ◌||◌, List, [], ◌∷◌, ◌++◌, length, get_or, set, get_or-set_other, get_or-set_same, length-set, replicate, refl, ◌∙◌, arith}
+use Rattle.std.proofs.Common.{◌≡◌, ℕ, ◌+◌, max, ltb, leb, Bool, true, false, ◌&&◌, ◌||◌, List, [], ◌∷◌, refl, arith}
 use Rattle.std.specs.List.{list_any}
 use Rattle.std.proofs.lemmas.Bool.Decides.{nat_tests}
-use Rattle.std.proofs.lemmas.List.{length-replicate, get_or-replicate}
-use Rattle.std.proofs.lemmas.List.Recursion.{or_push}
 use Rattle.cd_hints.specs.declared.settings.interval.Interval.{Interval}
 use Rattle.cd_hints.specs.Listing.{is_listed}
-use Rattle.cd_hints.specs.Reaches.{AreReaches, reaches_from}
+use Rattle.cd_hints.specs.Reaches.{reaches_from}
 
 -- a part begins below a number and does not end below another
 abbrev pub reaches_from_below : ℕ → ℕ → Interval → Bool

@@ -6,7 +6,7 @@ use Rattle.std.proofs.lemmas.List.{length-take}
 use Rattle.std.proofs.lemmas.List.Sums.{sum_by-cons}
 use Rattle.cd_pairing.specs.Events.{EventView}
 use Rattle.cd_ident.proofs.WeightBounds.{event_weights_are_linear}
-use Rattle.cd_ident.specs.Events.{EventParts, event_parts}
+use Rattle.cd_ident.specs.Events.{EventParts}
 use Rattle.cd_ident.specs.Keys.{parts_of, view_of}
 use Rattle.cd_ident.specs.declared.event.Event.{Event}
 use Rattle.cd_packet.proofs.Payloads.{layer_within}

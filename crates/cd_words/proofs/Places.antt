@@ -1,5 +1,5 @@
 -- The names of a command line, by their places.
-use Rattle.std.proofs.Common.{◌≡◌, ◌≢◌, ℕ, ◌+◌, ◌*◌, ◌%◌, ◌/◌, ◌<◌, ◌≤◌, ltb, Bool, true, false, List, Option, Some, sym, ap, ◌∙◌, refl, subst, arith, is_some}
+use Rattle.std.proofs.Common.{◌≡◌, ◌≢◌, ℕ, ◌+◌, ◌*◌, ◌%◌, ◌/◌, ◌<◌, ◌≤◌, ltb, Bool, true, false, List, Some, sym, ap, ◌∙◌, refl, arith, is_some}
 use Rattle.std.proofs.lemmas.Bool.{ltb-true, ltb-false}
 use Rattle.cd_words.specs.CommandLines.{Language, word_at, IsNamedBefore, NamesOption}
 

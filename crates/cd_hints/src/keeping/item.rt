@@ -33,10 +33,7 @@ use std::alloc::{AllocError, Global};
 fn first_question(message: Option<&Message>) -> Option<&Question>
     ensures { option_copied result ≡ option_and_then Items.first_question (option_copied message.entry) }
 {
-    match message {
-        Some(message) => message.questions.as_slice().first(),
-        None => None,
-    }
+    message.and_then(|message| message.questions.as_slice().first())
 }
 
 // The lead question of a record: the query's first one, or the response's first one where there is no query or it has

@@ -31,10 +31,7 @@ use std::alloc::{AllocError, Global};
 fn opt_in(message: Option<&Message>) -> Option<OptRef<'_>>
     ensures { option_map opt_seen result ≡ option_and_then opt_of_message (option_copied message.entry) }
 {
-    match message {
-        Some(message) => opt_ref(message),
-        None => None,
-    }
+    message.and_then(|message| opt_ref(message))
 }
 
 // The version of EDNS (RFC 6891 6.1.3).
@@ -132,10 +129,7 @@ fn kept_classtype(hints: u32, lead: Option<&Question>) -> Option<(u16, u16)>
     if !is_hinted(hints, SIG_CLASSTYPE) {
         return None;
     }
-    match lead {
-        Some(question) => Some((question.rtype, question.rclass)),
-        None => None,
-    }
+    lead.map(|question| (question.rtype, question.rclass))
 }
 
 // What is kept of the options of the query's OPT record.
