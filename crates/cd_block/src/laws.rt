@@ -1,6 +1,6 @@
-//! Laws of the format's numbers: the keys of RFC 8618 7.3, the bits of its hints and its flags, each as it stands there. Of
-//! collection parameters the first two keys have constants, the others have none. A law is the contract of a function that
-//! does nothing.
+//! Laws of the format's numbers: the keys of RFC 8618 7.3, the bits of its hints and its flags, each as it stands
+//! there. Of collection parameters the first two keys have constants, the others have none. A law is the contract of a
+//! function that does nothing.
 
 ghost use Rattle.std.specs.Prelude.{◌≡◌, [], ◌∷◌};
 ghost use Rattle.cd_block.specs.KeyTables.{preamble_keys, block_parameter_keys, storage_keys, hint_keys, collection_keys, block_keys, block_preamble_keys, statistics_keys, tables_keys, classtype_keys, signature_keys, question_keys, rr_keys, malformed_data_keys, item_keys, extended_keys, malformed_keys};
@@ -29,8 +29,8 @@ pub fn keys_are_those_of_the_format()
     ensures malformed { malformed_keys ≡ 0 ∷ 1 ∷ 2 ∷ 3 ∷ [] }
 {}
 
-/// The bits of storage hints (RFC 8618 7.3.1.1.1.1). The hint of a key of a signature has the bit of that key, and so has the
-/// hint of a key of an item from 0 to 10. An item's hints above those are of lists in its extended parts.
+/// The bits of storage hints (RFC 8618 7.3.1.1.1.1). The hint of a key of a signature has the bit of that key, and so
+/// has the hint of a key of an item from 0 to 10. An item's hints above those are of lists in its extended parts.
 pub fn hints_are_those_of_the_format()
     ensures item { item_hints ≡
         1 ∷ 2 ∷ 4 ∷ 8 ∷ 16 ∷ 32 ∷ 64 ∷ 128 ∷ 256 ∷ 512 ∷ 1024 ∷ 2048 ∷ 4096 ∷ 8192 ∷ 16384 ∷ 32768 ∷ 65536 ∷ 131072 ∷ [] }
@@ -40,7 +40,8 @@ pub fn hints_are_those_of_the_format()
     ensures other { other_hints ≡ 1 ∷ 2 ∷ [] }
 {}
 
-/// The bits of flags (RFC 8618 7.3.1.1.1, 7.3.2.3.2). Each flag of a response stands eight bits above the same flag of a query.
+/// The bits of flags (RFC 8618 7.3.1.1.1, 7.3.2.3.2). Each flag of a response stands eight bits above the same flag of
+/// a query.
 pub fn flags_are_those_of_the_format()
     ensures storage { storage_flags ≡ 1 ∷ 2 ∷ 4 ∷ [] }
     ensures transport { transport_flags ≡ 1 ∷ 0 ∷ 2 ∷ 32 ∷ [] }

@@ -1,6 +1,6 @@
 -- The bytes of each word for an item.
 use Rattle.std.proofs.Common.{◌≡◌, ℕ, ◌+◌, ◌<◌, ◌≤◌, List, [], ◌∷◌, ◌++◌, length, map, take, get_or, refl, ap, sym, ◌∙◌, append_assoc}
-use Rattle.std.proofs.lemmas.List.{append-nil, take_all, take_more, map_more, length-map}
+use Rattle.std.proofs.lemmas.List.{append-nil, take_all, map_more, length-map}
 use Rattle.cd_cbor.specs.declared.item.Item.{Item}
 use Rattle.cd_cbor.specs.declared.item.Item.TheOpen.{Item-F}
 use Rattle.cd_cbor.specs.declared.item.Item.TheFolds.{fold-roll-Item}
@@ -11,22 +11,26 @@ use Rattle.cd_cbor.specs.Items.{unsigned, negative, bytes, text, array, entries}
 -- a number is its head
 pub spelling_unsigned : (n : ℕ) → spelling (unsigned n) ≡ head 0 n
 unfolding spelling unsigned
-spelling_unsigned n = ap spelling (sym (rolls-Uint n)) ∙ fold-roll-Item (List ℕ) spelling_step (Item-F.Uint n)
+spelling_unsigned n =
+    ap spelling (sym (rolls-Uint n)) ∙ fold-roll-Item (List ℕ) spelling_step (Item-F.Uint n)
 
 -- so is a negative number
 pub spelling_negative : (n : ℕ) → spelling (negative n) ≡ head 1 n
 unfolding spelling negative
-spelling_negative n = ap spelling (sym (rolls-Nint n)) ∙ fold-roll-Item (List ℕ) spelling_step (Item-F.Nint n)
+spelling_negative n =
+    ap spelling (sym (rolls-Nint n)) ∙ fold-roll-Item (List ℕ) spelling_step (Item-F.Nint n)
 
 -- a string of bytes stands after the head of its length
 pub spelling_bytes : (content : List ℕ) → spelling (bytes content) ≡ head 2 (length content) ++ content
 unfolding spelling bytes
-spelling_bytes content = ap spelling (sym (rolls-Bytes content)) ∙ fold-roll-Item (List ℕ) spelling_step (Item-F.Bytes content)
+spelling_bytes content =
+    ap spelling (sym (rolls-Bytes content)) ∙ fold-roll-Item (List ℕ) spelling_step (Item-F.Bytes content)
 
 -- so does a text
 pub spelling_text : (content : List ℕ) → spelling (text content) ≡ head 3 (length content) ++ content
 unfolding spelling text
-spelling_text content = ap spelling (sym (rolls-Text content)) ∙ fold-roll-Item (List ℕ) spelling_step (Item-F.Text content)
+spelling_text content =
+    ap spelling (sym (rolls-Text content)) ∙ fold-roll-Item (List ℕ) spelling_step (Item-F.Text content)
 
 -- the items of an array stand after the head of their number
 pub spelling_array : (items : List Item) → spelling (array items) ≡ head 4 (length items) ++ spelling_all items
@@ -47,14 +51,6 @@ pub spelling_all_append : (xs ys : List Item) → spelling_all (xs ++ ys) ≡ sp
 spelling_all_append [] ys = refl
 spelling_all_append (x ∷ xs) ys =
     ap (λ t. spelling x ++ t) (spelling_all_append xs ys) ∙ sym (append_assoc (spelling x) (spelling_all xs) (spelling_all ys))
-
--- pairs after others
-pub spelling_pairs_append : (ps qs : List (Item × Item)) → spelling_pairs (ps ++ qs) ≡ spelling_pairs ps ++ spelling_pairs qs
-spelling_pairs_append [] qs = refl
-spelling_pairs_append (p ∷ ps) qs =
-    ap (λ t. spelling p.0 ++ (spelling p.1 ++ t)) (spelling_pairs_append ps qs)
-    ∙ ap (λ t. spelling p.0 ++ t) (sym (append_assoc (spelling p.1) (spelling_pairs ps) (spelling_pairs qs)))
-    ∙ sym (append_assoc (spelling p.0) (spelling p.1 ++ spelling_pairs ps) (spelling_pairs qs))
 
 -- one more value's item, in a loop that writes them
 pub spelling_all_more : {X : Type 0} (f : X → Item) (xs : List X) (i : ℕ) (d : X) → i < length xs →

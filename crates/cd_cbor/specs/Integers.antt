@@ -1,6 +1,5 @@
--- Integers as items, and what the writers of maps of integers are given.
-use Rattle.std.specs.Prelude.{ℕ, ℤ, pos, negsuc, Option}
-use Rattle.std.specs.Option.{option_map}
+-- Integers as items.
+use Rattle.std.specs.Prelude.{ℤ, pos, negsuc}
 use Rattle.cd_cbor.specs.declared.item.Item.{Item}
 use Rattle.cd_cbor.specs.declared.integer.Integer.{Integer}
 use Rattle.cd_cbor.specs.declared.integer.Integer.TheVariants.{Unsigned, Negative}
@@ -15,11 +14,3 @@ signed (negsuc n) = negative n
 abbrev pub integer_item : Integer → Item
 integer_item (Unsigned n) = unsigned n
 integer_item (Negative n) = negative n
-
--- a key and its integer, where it is there
-abbrev pub integer_entry : ℕ × Option Integer → ℕ × Option Item
-integer_entry entry = (entry.0, option_map integer_item entry.1)
-
--- a key and its number
-abbrev pub number_entry : ℕ × ℕ → Item × Item
-number_entry entry = (unsigned entry.0, unsigned entry.1)

@@ -1,4 +1,4 @@
--- The one canonical spelling of an item (RFC 8949 4.2.1): shortest heads, definite lengths, items and pairs in their order.
+-- The one spelling that is written of an item: the shortest heads and definite lengths (RFC 8949 4.2.1).
 use Rattle.std.specs.Prelude.{ℕ, ◌+◌, ◌*◌, nat_lt, List, [], ◌∷◌, ◌++◌, map, length, if◌then◌else◌}
 use Rattle.std.specs.List.{concat}
 use Rattle.std.specs.Int.{to_be_bytes, w16, w32, w64}

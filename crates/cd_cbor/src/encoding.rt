@@ -9,8 +9,10 @@ use crate::values::{push_bytes, push_negative, push_text, push_unsigned};
 use cd_bytes::Out;
 use std::alloc::AllocError;
 
-/// Writes the canonical spelling of an item: the shortest heads and definite lengths (RFC 8949 4.2.1), items and pairs in
-/// their order, and the bytes of an `Other` as they are. An `Err` is for want of memory, and may write a front of it.
+/// Writes the spelling of an item: the shortest heads and definite lengths (RFC 8949 4.2.1), items and pairs in their
+/// order. The bytes of an `Other` and of a `Text` are written as they are, so what is written is well-formed where each
+/// `Other` holds one tagged value, simple value or float that is, and valid where each `Text` is UTF-8. An `Err` is for
+/// want of memory, and may write a front of the spelling.
 #[tactic(auto, unfolding(crate::specs::Spelling::spelling, crate::specs::Items::unsigned, crate::specs::Items::negative, crate::specs::Items::bytes, crate::specs::Items::text))]
 pub fn encode(item: &Item, out: &mut Out) -> Result<(), AllocError>
     ensures { OnOk result (out.new ≡ out.old ++ spelling item.now) }

@@ -8,8 +8,8 @@ use crate::major_type::MajorType;
 use cd_bytes::Out;
 use std::alloc::AllocError;
 
-/// Writes the shortest head of a major type with an argument, 1 to 9 bytes (RFC 8949 3). An `Err` is for want of memory,
-/// and writes nothing.
+/// Writes the shortest head of a major type with an argument, 1 to 9 bytes (RFC 8949 3). An `Err` is for want of
+/// memory, and writes nothing.
 #[tactic(auto, unfolding(crate::specs::Spelling::head))]
 pub fn push_head(out: &mut Out, major: MajorType, argument: u64) -> Result<(), AllocError>
     ensures ok { OnOk result (out.new ≡ out.old ++ head (major_number major) argument) }
@@ -34,7 +34,8 @@ pub fn push_head(out: &mut Out, major: MajorType, argument: u64) -> Result<(), A
     out.push_slice(&[kind + 27, a, b, c, d, e, f, g, h])
 }
 
-/// Writes the head of an array of so many items, which have to follow. An `Err` is for want of memory, and writes nothing.
+/// Writes the head of an array of so many items, which have to follow. An `Err` is for want of memory, and writes
+/// nothing.
 pub fn push_array_head(out: &mut Out, count: u64) -> Result<(), AllocError>
     ensures ok { OnOk result (out.new ≡ out.old ++ head 4 count) }
     ensures err { OnErr result (out.new ≡ out.old) }

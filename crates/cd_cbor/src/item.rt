@@ -1,4 +1,4 @@
-//! An item.
+//! Items.
 
 use cd_name::{Blob, List};
 

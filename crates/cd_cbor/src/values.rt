@@ -40,7 +40,7 @@ pub fn push_integer(out: &mut Out, n: Integer) -> Result<(), AllocError>
     }
 }
 
-/// Writes a string of bytes. An `Err` is for want of memory, and may write a front of it.
+/// Writes a string of bytes. An `Err` is for want of memory, and may write a front of its spelling.
 #[tactic(auto, using(std::proofs::lemmas::List::append_assoc, crate::proofs::Spelled::spelling_bytes))]
 pub fn push_bytes(out: &mut Out, content: &[u8]) -> Result<(), AllocError>
     ensures { OnOk result (out.new ≡ out.old ++ spelling (bytes content.now)) }
@@ -49,7 +49,7 @@ pub fn push_bytes(out: &mut Out, content: &[u8]) -> Result<(), AllocError>
     out.push_slice(content)
 }
 
-/// Writes a text, by its bytes in UTF-8. An `Err` is for want of memory, and may write a front of it.
+/// Writes a text, by its bytes in UTF-8. An `Err` is for want of memory, and may write a front of its spelling.
 #[tactic(auto, using(std::proofs::lemmas::List::append_assoc, crate::proofs::Spelled::spelling_text))]
 pub fn push_text(out: &mut Out, content: &[u8]) -> Result<(), AllocError>
     ensures { OnOk result (out.new ≡ out.old ++ spelling (text content.now)) }
