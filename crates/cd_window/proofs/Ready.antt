@@ -1,21 +1,21 @@
 -- Where nothing is ready, all that is released was popped.
-use Rattle.std.proofs.Common.{◌≡◌, ℕ, ◌+◌, ◌<◌, ◌≤◌, Bool, true, false, not, ◌||◌, List, length, take, map, Option, Some, None, refl, ap, sym, ◌∙◌, subst, arith, inl, inr}
+use Rattle.std.proofs.Common.{◌≡◌, ℕ, ◌+◌, ◌<◌, ◌≤◌, Bool, true, false, not, ◌||◌, List, [], length, take, map, Option, Some, None, refl, ap, sym, ◌∙◌, subst, arith, inl, inr}
 use Rattle.std.specs.Prelude.{is_some}
 use Rattle.std.proofs.lemmas.Bool.{cases_lt, true≢false}
 use Rattle.std.proofs.lemmas.List.{length-map}
 use Rattle.cd_pairing.specs.Events.{EventView, event_at}
 use Rattle.cd_pairing.specs.Matching.{partner}
-use Rattle.cd_pairing.specs.Pairing.{StampedEvent}
+use Rattle.cd_pairing.specs.Pairing.{StampedEvent, IsPairing}
 use Rattle.cd_pairing.specs.Settling.{is_neither, is_settled, settled_count}
 use Rattle.cd_pairing.specs.Records.{records, released_records}
 use Rattle.cd_pairing.proofs.Records.{settled_least, settled_all, settled_le}
 use Rattle.cd_window.specs.declared.released.Released.{Released}
 use Rattle.cd_window.specs.declared.held.Held.{Held}
-use Rattle.cd_window.specs.Seen.{Seen, held_at, is_open, is_front_ready}
+use Rattle.cd_window.specs.Seen.{Seen, held_at, is_open, is_ready, is_front_ready}
 use Rattle.cd_window.specs.History.{StandsFor, AreRecords}
 use Rattle.cd_window.specs.Pops.{IsTrimmed}
 use Rattle.cd_window.specs.Laws.{DueIsPopped}
-use Rattle.cd_window.proofs.Popping.{first_within, same_partners}
+use Rattle.cd_window.proofs.Popping.{first_within, same_partners, finished_tells_all}
 use Rattle.cd_window.proofs.Pushing.{held_is, held_stamp, open_is}
 
 -- what the front says of itself is what is settled
@@ -36,8 +36,10 @@ not_further : {E : Type 0} (view : E → EventView) (w : Seen E) (pushed : List 
 not_further view w pushed popped S going lt trim s None e r = let n = ap length (trim e) in omega arith
 not_further view w pushed popped S going lt trim s (Some h) e r = true≢false (sym s ∙ sym (front_settled view w pushed popped S going h lt e) ∙ r)
 
-pub due_is_popped : {E : Type 0} (view : E → EventView) → DueIsPopped view
-due_is_popped {E} view w pushed popped p S trim idle going P =
+-- before the end is told
+released_is_popped : {E : Type 0} (view : E → EventView) (w : Seen E) (pushed : List E) (popped : List (Released E)) (p : List (Option ℕ)) → StandsFor view w pushed popped → IsTrimmed w → is_ready view w ≡ false →
+    w.finished ≡ false → IsPairing w.windows (map view pushed) p → AreRecords view pushed (released_records w.windows (map view pushed) p) popped
+released_is_popped {E} view w pushed popped p S trim idle going P =
     let events : List EventView = map view pushed in
     let q : List (Option ℕ) = S.partners in
     let f : ℕ → Bool = is_settled w.windows events q in
@@ -51,3 +53,14 @@ due_is_popped {E} view w pushed popped p S trim idle going P =
     ] in
     subst (λ (x : List (Option ℕ)). AreRecords view pushed (released_records w.windows events x) popped) (same_partners view w pushed popped p S P)
     (subst (λ (x : ℕ). AreRecords view pushed (records (take x q)) popped) same S.popped_are)
+
+-- after the end is told, nothing is held where nothing is ready
+nothing_left : {E : Type 0} (view : E → EventView) (w : Seen E) → IsTrimmed w → w.finished ≡ true → (o : Option (Held E)) → held_at w 0 ≡ o → is_front_ready view w o ≡ false → w.held ≡ []
+nothing_left view w trim done None e r = trim e
+nothing_left view w trim done (Some h) e r =
+    absurd (true≢false (sym (ap (λ (b : Bool). b || (is_neither (view h.event).side || is_some h.partner || not (is_open view w 0 h))) done) ∙ r))
+
+pub due_is_popped : {E : Type 0} (view : E → EventView) → DueIsPopped view
+due_is_popped {E} view w pushed popped p S trim idle P =
+    ( λ going. released_is_popped view w pushed popped p S trim idle going P
+    , λ done. (finished_tells_all view w pushed popped p S P).1 (nothing_left view w trim done (held_at w 0) refl idle) )

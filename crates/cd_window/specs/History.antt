@@ -1,6 +1,6 @@
 -- For which histories a window stands: the events that were pushed, and the records that were popped.
-use Rattle.std.specs.Prelude.{◌≡◌, ℕ, ◌+◌, ◌<◌, ◌≤◌, true, false, max, List, [], ◌∷◌, ◌++◌, length, map, take, Option, Some, None}
-use Rattle.std.specs.Prelude.{slice_get, ◌⊎◌}
+use Rattle.std.specs.Prelude.{◌≡◌, ℕ, ◌+◌, ◌<◌, ◌≤◌, true, false, max, List, [], ◌∷◌, ◌++◌, length, map, take}
+use Rattle.std.specs.Prelude.{Option, Some, None, slice_get, ◌⊎◌}
 use Rattle.std.specs.List.{fold, sum_by}
 use Rattle.cd_pairing.specs.declared.keyed.Side.TheVariants.{Query}
 use Rattle.cd_pairing.specs.Events.{EventView, clock, weight_sum}
@@ -21,7 +21,8 @@ pub record ArePushed {E : Type 0} (view : E → EventView) (pushed : List E) (i 
 
 -- a popped record is this record of positions, with the events that were pushed there
 abbrev pub IsRecord : {E : Type 0} → (E → EventView) → List E → Record → Released E → Type 0
-IsRecord view pushed (pair i j) (Pair lead query response) = (lead ≡ i) × (ArePushed view pushed i j query response ⊎ ArePushed view pushed j i query response)
+IsRecord view pushed (pair i j) (Pair lead query response) =
+    (lead ≡ i) × (ArePushed view pushed i j query response ⊎ ArePushed view pushed j i query response)
 IsRecord view pushed (single i) (One lead event) = (lead ≡ i) × (slice_get pushed i ≡ Some event)
 IsRecord view pushed (pair i j) (One lead event) = ⊥
 IsRecord view pushed (single i) (Pair lead query response) = ⊥
@@ -34,14 +35,16 @@ AreRecords view pushed [] (x ∷ xs) = ⊥
 AreRecords view pushed (r ∷ rs) [] = ⊥
 
 -- popped records are a front of these
-pub record AreFirstRecords {E : Type 0} (view : E → EventView) (pushed : List E) (all : List Record) (popped : List (Released E)) : Type 0 where
+pub record AreFirstRecords {E : Type 0} (view : E → EventView) (pushed : List E) (all : List Record)
+    (popped : List (Released E)) : Type 0 where
   pub front : List Record
   pub rest : List Record
   pub whole : all ≡ front ++ rest
   pub popped_are : AreRecords view pushed front popped
 
 -- what is held of the event at this position
-pub record IsHeld {E : Type 0} (view : E → EventView) (pushed : List E) (partners : List (Option ℕ)) (first i : ℕ) (h : Held E) : Type 0 where
+pub record IsHeld {E : Type 0} (view : E → EventView) (pushed : List E)
+    (partners : List (Option ℕ)) (first i : ℕ) (h : Held E) : Type 0 where
   pub event : slice_get pushed i ≡ Some h.event
   pub clock : h.clock ≡ clock (map view pushed) i
   pub weight_sum : h.weight_sum ≡ weight_sum (map view pushed) i
@@ -71,7 +74,8 @@ pub record HeldIsUnpopped {E : Type 0} (view : E → EventView) (w : Seen E) (pu
   pub weight : held_weight view w + sum_by (weight_in view) popped ≡ sum_by (λ e. e.weight) (map view pushed)
 
 -- the window stands for these events pushed and these records popped
-pub record StandsFor {E : Type 0} (view : E → EventView) (w : Seen E) (pushed : List E) (popped : List (Released E)) : Type 0 where
+pub record StandsFor {E : Type 0} (view : E → EventView) (w : Seen E) (pushed : List E)
+    (popped : List (Released E)) : Type 0 where
   pub partners : List (Option ℕ)
   pub pairing : IsPairing w.windows (map view pushed) partners
   pub heavy : AreHeavy (map view pushed)

@@ -2,11 +2,11 @@
 use Rattle.std.specs.Prelude.{◌≡◌, ℕ, ◌+◌, ◌<◌, ◌≤◌, ◌^◌, ◌≢◌, List, [], ◌∷◌, Option, Some, None, slice_index_or}
 use Rattle.cd_pairing.specs.Events.{EventView}
 use Rattle.cd_window.specs.declared.held.Held.{Held}
-use Rattle.cd_window.specs.Seen.{Seen, count_of, held_at, held_count, held_weight}
+use Rattle.cd_window.specs.Seen.{Places, Seen, count_of, held_at, held_count, held_weight}
 use Rattle.cd_window.specs.Pops.{IsTrimmed}
 
 -- from this clock and this sum of weights up to those, the stamps of what is held rise: each sum by its own weight
-abbrev pub StampsRise : {E : Type 0} → (E → EventView) → ℕ → ℕ → List (Option (Held E)) → ℕ → ℕ → Type 0
+abbrev pub StampsRise : {E : Type 0} → (E → EventView) → ℕ → ℕ → Places E → ℕ → ℕ → Type 0
 StampsRise view clock sum [] last_clock last_sum = (clock ≤ last_clock) × (sum ≤ last_sum)
 StampsRise view clock sum (None ∷ hs) last_clock last_sum = StampsRise view clock sum hs last_clock last_sum
 StampsRise view clock sum (Some h ∷ hs) last_clock last_sum = (clock ≤ h.clock)
@@ -14,7 +14,7 @@ StampsRise view clock sum (Some h ∷ hs) last_clock last_sum = (clock ≤ h.clo
 
 -- of what is held from this position on: what stands at this place has its partner at that position, which is held as
 -- well and paired back
-pub record IsMated {E : Type 0} (first : ℕ) (held : List (Option (Held E))) (k j : ℕ) : Type 0 where
+pub record IsMated {E : Type 0} (first : ℕ) (held : Places E) (k j : ℕ) : Type 0 where
   pub place : ℕ
   pub is : j ≡ first + place
   pub other : Held E

@@ -39,8 +39,9 @@ PushesStand {E} view = (w : Seen E) (e : E) (new : Seen E) (pushed : List E) (po
 
 -- what a window stands for after a pop
 abbrev pub PopsStand : {E : Type 0} → (E → EventView) → Type 0
-PopsStand {E} view = (w : Seen E) (result : Option (Released E)) (new : Seen E) (pushed : List E) (popped : List (Released E)) →
-    StandsFor view w pushed popped → IsPopped view w result new → StandsFor view new pushed (popped ++ listed result)
+PopsStand {E} view = (w : Seen E) (result : Option (Released E)) (new : Seen E) (pushed : List E)
+    (popped : List (Released E)) → StandsFor view w pushed popped → IsPopped view w result new →
+    StandsFor view new pushed (popped ++ listed result)
 
 -- of two events of one side that are held, unpaired or not, the window of the later one is open where that of the
 -- earlier one is: so the windows of a side close from the front

@@ -6,14 +6,14 @@ use Rattle.cd_pairing.specs.Events.{EventView}
 use Rattle.cd_window.specs.declared.released.Released.{Released}
 use Rattle.cd_window.specs.declared.released.Released.TheVariants.{Pair, One}
 use Rattle.cd_window.specs.declared.held.Held.{Held}
-use Rattle.cd_window.specs.Seen.{Seen, held_at, is_ready}
+use Rattle.cd_window.specs.Seen.{Places, Seen, held_at, is_ready}
 
 -- nothing is held, or something at the front
 abbrev pub IsTrimmed : {E : Type 0} → Seen E → Type 0
 IsTrimmed w = held_at w 0 ≡ None → w.held ≡ []
 
 -- the front is gone, and with it the places behind it at which nothing was held
-pub record IsLeft {E : Type 0} (w : Seen E) (rest : List (Option (Held E))) (new : Seen E) : Type 0 where
+pub record IsLeft {E : Type 0} (w : Seen E) (rest : Places E) (new : Seen E) : Type 0 where
   pub skipped : ℕ
   pub within : skipped < length rest
   pub empty : (k : ℕ) → 0 < k → k < 1 + skipped → held_at (record w { held = rest }) k ≡ None

@@ -4,7 +4,7 @@ use Rattle.std.specs.Prelude.{slice_set, ◌⊎◌}
 use Rattle.cd_pairing.specs.Events.{EventView}
 use Rattle.cd_pairing.specs.Pairing.{may_pair}
 use Rattle.cd_window.specs.declared.held.Held.{Held}
-use Rattle.cd_window.specs.Seen.{Seen, count_of, held_at, stamped, is_open}
+use Rattle.cd_window.specs.Seen.{Places, Seen, count_of, held_at, stamped, is_open}
 
 -- the next event as it is held
 abbrev pub next_held : {E : Type 0} → (E → EventView) → Seen E → E → Option ℕ → Held E
@@ -30,7 +30,7 @@ abbrev pub with_partner : {E : Type 0} → Held E → ℕ → Held E
 with_partner h j = record { event = h.event; clock = h.clock; weight_sum = h.weight_sum; partner = Some j }
 
 -- the next event is paired with the earliest that may stand with it
-pub record JoinsAt {E : Type 0} (view : E → EventView) (w : Seen E) (e : E) (new : List (Option (Held E))) : Type 0 where
+pub record JoinsAt {E : Type 0} (view : E → EventView) (w : Seen E) (e : E) (new : Places E) : Type 0 where
   pub place : ℕ
   pub was : Held E
   pub within : place < length w.held
@@ -42,7 +42,7 @@ pub record JoinsAt {E : Type 0} (view : E → EventView) (w : Seen E) (e : E) (n
       ++ Some (next_held view w e (Some (w.first + place))) ∷ []
 
 -- nothing may stand with the next event, which stays unpaired
-pub record StaysAlone {E : Type 0} (view : E → EventView) (w : Seen E) (e : E) (new : List (Option (Held E))) : Type 0 where
+pub record StaysAlone {E : Type 0} (view : E → EventView) (w : Seen E) (e : E) (new : Places E) : Type 0 where
   pub none : NoneFitsBefore view w e (length w.held)
   pub new_is : new ≡ w.held ++ Some (next_held view w e None) ∷ []
 

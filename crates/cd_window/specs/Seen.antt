@@ -9,6 +9,10 @@ use Rattle.cd_pairing.specs.Pairing.{StampedEvent, timeout}
 use Rattle.cd_pairing.specs.Settling.{is_neither}
 use Rattle.cd_window.specs.declared.held.Held.{Held}
 
+-- places in order: at each an event that is held, or none
+abbrev pub Places : Type 0 → Type 0
+Places E = List (Option (Held E))
+
 -- the windows, whether the end was told, the position of the front, the clock and the sum of weights at the last event,
 -- and what is held from the front on: nothing at a position that was popped with an earlier one
 pub record Seen (E : Type 0) : Type 0 where
@@ -17,7 +21,7 @@ pub record Seen (E : Type 0) : Type 0 where
   pub first : ℕ
   pub clock : ℕ
   pub weight_sum : ℕ
-  pub held : List (Option (Held E))
+  pub held : Places E
 
 -- a window that was given no event
 abbrev pub empty_window : {E : Type 0} → Windows → Seen E

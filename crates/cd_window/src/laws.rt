@@ -1,4 +1,5 @@
-//! What holds of each window and each history that it stands for. Each law is the contract of a function that does nothing.
+//! What holds of each window and each history that it stands for. Each law is the contract of a function that does
+//! nothing.
 
 ghost use Rattle.cd_window.specs.Laws.{PoppedIsReleased, FinishedTellsAll, DueIsPopped, PushesStand, PopsStand};
 ghost use Rattle.cd_window.specs.Laws.{WindowsCloseInOrder, OpenWereOpen};
@@ -15,7 +16,8 @@ pub fn finished_windows_tell_all<E: Keyed>()
     ensures { FinishedTellsAll E.view }
 {}
 
-/// Where no record is ready before the end is told, all that is released was popped.
+/// Where no record is ready, all that is due was popped: what is released before the end is told, and all records
+/// after.
 pub fn what_is_due_is_popped<E: Keyed>()
     ensures { DueIsPopped E.view }
 {}

@@ -1,16 +1,16 @@
 //! The one pairing of queries and responses, found while events come.
 //!
-//! - A *window* takes events one by one (`push`) and gives each the next *position*, from 0. It pairs an event where the
-//!   one pairing of the whole list says so: `cd_pairing` has that pairing, and what an event, a window and a record are.
+//! - A *window* takes events one by one (`push`) and gives each the next *position*, from 0. It pairs an event where
+//!   the one pairing of the whole list says so: `cd_pairing` has that pairing, and what an event and a record are.
 //! - An event is *held* until its *record* is popped: a pair, or an event that stands alone. Records are popped in the
 //!   order of their *leads*, the positions of their first events.
 //! - The *front* is the earliest event that is held. Its record is *ready* where it is paired, is neither a query nor a
 //!   response, or waits no more, so that no later event changes its record.
 //! - `finish` tells the end of the events: whatever is held is ready then.
 //!
-//! Of each window the relation `StandsFor` (`specs/History.antt`) says for which histories it stands: the events pushed,
-//! and the records popped. What is popped is a front of what is released of the events pushed, and after `finish` and
-//! pops until there is none it is all of their records.
+//! Of each window the relation `StandsFor` (`specs/History.antt`) says for which histories it stands: the events
+//! pushed, and the records popped. What is popped is a front of what is released of the events pushed, and after
+//! `finish` and pops until there is none it is all of their records.
 //!
 //! Example: with a window of 2 positions and three queries, a pop gives the first alone once two were pushed.
 #![tactic(auto)]

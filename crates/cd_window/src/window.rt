@@ -5,7 +5,7 @@ ghost use Rattle.cd_pairing.specs.declared.keyed.TheConstants.{LEAST_WEIGHT};
 ghost use Rattle.cd_window.specs.declared.released.Released.{Released};
 ghost use Rattle.cd_window.specs.Seen.{empty_window, is_ready, held_count, held_weight};
 ghost use Rattle.cd_window.specs.Pushes.{IsPushed};
-ghost use Rattle.cd_window.specs.Pops.{IsPopped};
+ghost use Rattle.cd_window.specs.Pops.{IsPopped, IsTrimmed};
 ghost use Rattle.cd_window.specs.History.{StandsFor, listed, events_in, weight_in};
 
 use crate::Released;
@@ -64,8 +64,8 @@ impl<E: Keyed> Model for Window<E> {
 }
 
 impl<E: Keyed + Drop> Window<E> {
-    /// A window that was given no event. `windows.count` is at least 1 and below 2^31. The only error is that memory runs
-    /// out.
+    /// A window that was given no event. `windows.count` is at least 1 and below 2^31. The only error is that memory
+    /// runs out.
     pub fn new(alloc: Global, windows: Windows) -> Result<Window<E>, AllocError>
         requires some { 1 ≤ windows.count }
         requires few { windows.count < 2 ^ 31 }
@@ -115,8 +115,8 @@ impl<E: Keyed + Drop> Window<E> {
         Ok(())
     }
 
-    /// The record of the front, which is held no more. None exactly where nothing is held, or where the front is unpaired,
-    /// its window is open and `finish` was not called. It takes no memory.
+    /// The record of the front, which is held no more. None exactly where nothing is held, or where the front is
+    /// unpaired, its window is open and `finish` was not called. It takes no memory.
     pub fn pop(&mut self) -> Option<Released<E>>
         ensures popped { IsPopped E.view self.old result self.new }
         ensures stands { (pushed : List E) (popped : List (Released E)) →
@@ -133,9 +133,11 @@ impl<E: Keyed + Drop> Window<E> {
         Some(record)
     }
 
-    /// Whether `pop` would give a record.
+    /// Whether `pop` would give a record. The front is held, or nothing is: so all that is due was popped where no
+    /// record is ready.
     pub fn ready(&self) -> bool
-        ensures { result ≡ is_ready E.view self.now }
+        ensures ready { result ≡ is_ready E.view self.now }
+        ensures trimmed { IsTrimmed self.now }
     {
         let now = Stamp {
             index: self.first + self.places.len() as u64,

@@ -16,7 +16,7 @@ overflow_sub-self g c =
     let i = c.self.inside in
     let w : Seen g.row.E.Denot = record { windows = i.windows; finished = i.finished; first = i.first; clock = i.clock; weight_sum = i.weight_sum; held = i.places.items } in
     let is : c.ready.result ≡ true = search rules in
-    let ready : is_ready g.E.Keyed.view w ≡ true = subst (λ x. is_ready g.E.Keyed.view x ≡ true) (sym c.self.view_is) (sym c.ready.ensures ∙ is) in
+    let ready : is_ready g.E.Keyed.view w ≡ true = subst (λ x. is_ready g.E.Keyed.view x ≡ true) (sym c.self.view_is) (sym c.ready.ensures.ready ∙ is) in
     let F = pop_facts g.E.Keyed.view w i.count i.weight c.take_front-record.result c.take_front-record.new.places.items c.trim.new.places.items c.trim.result c.self.invariant ready c.take_front-record.ensures c.trim.ensures in
     omega (arith, F.events, c.events_in.ensures)
 
@@ -25,7 +25,7 @@ weight_in-requires g c =
     let i = c.self.inside in
     let w : Seen g.row.E.Denot = record { windows = i.windows; finished = i.finished; first = i.first; clock = i.clock; weight_sum = i.weight_sum; held = i.places.items } in
     let is : c.ready.result ≡ true = search rules in
-    let ready : is_ready g.E.Keyed.view w ≡ true = subst (λ x. is_ready g.E.Keyed.view x ≡ true) (sym c.self.view_is) (sym c.ready.ensures ∙ is) in
+    let ready : is_ready g.E.Keyed.view w ≡ true = subst (λ x. is_ready g.E.Keyed.view x ≡ true) (sym c.self.view_is) (sym c.ready.ensures.ready ∙ is) in
     let F = pop_facts g.E.Keyed.view w i.count i.weight c.take_front-record.result c.take_front-record.new.places.items c.trim.new.places.items c.trim.result c.self.invariant ready c.take_front-record.ensures c.trim.ensures in
     let within = weight_within g.E.Keyed.view w i.count i.weight c.self.invariant in
     omega (arith, within, F.weighs, c.self.invariant.light)
@@ -35,7 +35,7 @@ overflow_sub-self-2 g c =
     let i = c.self.inside in
     let w : Seen g.row.E.Denot = record { windows = i.windows; finished = i.finished; first = i.first; clock = i.clock; weight_sum = i.weight_sum; held = i.places.items } in
     let is : c.ready.result ≡ true = search rules in
-    let ready : is_ready g.E.Keyed.view w ≡ true = subst (λ x. is_ready g.E.Keyed.view x ≡ true) (sym c.self.view_is) (sym c.ready.ensures ∙ is) in
+    let ready : is_ready g.E.Keyed.view w ≡ true = subst (λ x. is_ready g.E.Keyed.view x ≡ true) (sym c.self.view_is) (sym c.ready.ensures.ready ∙ is) in
     let F = pop_facts g.E.Keyed.view w i.count i.weight c.take_front-record.result c.take_front-record.new.places.items c.trim.new.places.items c.trim.result c.self.invariant ready c.take_front-record.ensures c.trim.ensures in
     omega (arith, F.weighs, c.weight_in.ensures)
 
@@ -44,7 +44,7 @@ invariant_of-self g c =
     let i = c.self.inside in
     let w : Seen g.row.E.Denot = record { windows = i.windows; finished = i.finished; first = i.first; clock = i.clock; weight_sum = i.weight_sum; held = i.places.items } in
     let is : c.ready.result ≡ true = search rules in
-    let ready : is_ready g.E.Keyed.view w ≡ true = subst (λ x. is_ready g.E.Keyed.view x ≡ true) (sym c.self.view_is) (sym c.ready.ensures ∙ is) in
+    let ready : is_ready g.E.Keyed.view w ≡ true = subst (λ x. is_ready g.E.Keyed.view x ≡ true) (sym c.self.view_is) (sym c.ready.ensures.ready ∙ is) in
     let F = pop_facts g.E.Keyed.view w i.count i.weight c.take_front-record.result c.take_front-record.new.places.items c.trim.new.places.items c.trim.result c.self.invariant ready c.take_front-record.ensures c.trim.ensures in
     subst (λ n. Keeps g.E.Keyed.view (after w c.trim.result c.trim.new.places.items) n (i.weight - c.weight_in.result)) (ap (λ (n : ℕ). i.count - n) (sym c.events_in.ensures))
     (subst (λ n. Keeps g.E.Keyed.view (after w c.trim.result c.trim.new.places.items) (i.count - events_in c.take_front-record.result) (i.weight - n)) (sym c.weight_in.ensures) F.keeps)
@@ -54,7 +54,7 @@ returns-clause-popped g c =
     let i = c.self.inside in
     let w : Seen g.row.E.Denot = record { windows = i.windows; finished = i.finished; first = i.first; clock = i.clock; weight_sum = i.weight_sum; held = i.places.items } in
     let is : c.ready.result ≡ true = search rules in
-    let ready : is_ready g.E.Keyed.view w ≡ true = subst (λ x. is_ready g.E.Keyed.view x ≡ true) (sym c.self.view_is) (sym c.ready.ensures ∙ is) in
+    let ready : is_ready g.E.Keyed.view w ≡ true = subst (λ x. is_ready g.E.Keyed.view x ≡ true) (sym c.self.view_is) (sym c.ready.ensures.ready ∙ is) in
     let F = pop_facts g.E.Keyed.view w i.count i.weight c.take_front-record.result c.take_front-record.new.places.items c.trim.new.places.items c.trim.result c.self.invariant ready c.take_front-record.ensures c.trim.ensures in
     subst (λ x. IsPopped g.E.Keyed.view x (Some c.take_front-record.result) (after w c.trim.result c.trim.new.places.items)) c.self.view_is F.popped
 
@@ -63,7 +63,7 @@ returns-clause-stands g c =
     let i = c.self.inside in
     let w : Seen g.row.E.Denot = record { windows = i.windows; finished = i.finished; first = i.first; clock = i.clock; weight_sum = i.weight_sum; held = i.places.items } in
     let is : c.ready.result ≡ true = search rules in
-    let ready : is_ready g.E.Keyed.view w ≡ true = subst (λ x. is_ready g.E.Keyed.view x ≡ true) (sym c.self.view_is) (sym c.ready.ensures ∙ is) in
+    let ready : is_ready g.E.Keyed.view w ≡ true = subst (λ x. is_ready g.E.Keyed.view x ≡ true) (sym c.self.view_is) (sym c.ready.ensures.ready ∙ is) in
     let F = pop_facts g.E.Keyed.view w i.count i.weight c.take_front-record.result c.take_front-record.new.places.items c.trim.new.places.items c.trim.result c.self.invariant ready c.take_front-record.ensures c.trim.ensures in
     λ pushed popped S. popped_stands g.E.Keyed.view w (Some c.take_front-record.result) (after w c.trim.result c.trim.new.places.items) pushed popped
     (subst (λ x. StandsFor g.E.Keyed.view x pushed popped) (sym c.self.view_is) S) F.popped
