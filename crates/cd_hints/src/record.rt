@@ -94,10 +94,7 @@ impl Rec {
         ensures message { option_copied result ≡ query_message (record_parts self.now) }
         ensures valid { IfSome result (λ m. Valid m.now) }
     {
-        match self.query() {
-            Some(query) => message_of(query),
-            None => None,
-        }
+        self.query().and_then(|query| message_of(query))
     }
 
     // The message of the response, where there is one.
@@ -105,9 +102,6 @@ impl Rec {
         ensures message { option_copied result ≡ response_message (record_parts self.now) }
         ensures valid { IfSome result (λ m. Valid m.now) }
     {
-        match self.response() {
-            Some(response) => message_of(response),
-            None => None,
-        }
+        self.response().and_then(|response| message_of(response))
     }
 }
