@@ -1,0 +1,16 @@
+-- the lists of the table are the items of its vectors
+use Rattle.std.proofs.Common.{tt}
+use Rattle.std.specs.Cmp.Lexicographic.{pointwise}
+use Rattle.cd_table.proofs.Images.{position_or_len_map, put_map}
+use Rattle.cd_table.proofs.slice_table.SliceTable.insert.Goals as goal
+use Rattle.cd_table.proofs.slice_table.SliceTable.insert.Goals.{in-Ok, in-Err}
+
+pub returns-clause-table : goal.returns-clause-table
+returns-clause-table g c =
+    let lists = put_map (pointwise g.T.PartialEq.eq) (λ v. v.items) c.self.inside.values.keys c.args.items in
+    elim c.match-insert_full.branch [ in-Ok w ↦ ? | in-Err w ↦ ? ]
+
+pub returns-clause-index : goal.returns-clause-index
+returns-clause-index g c =
+    let place = position_or_len_map (pointwise g.T.PartialEq.eq c.args.items.items) (λ v. v.items) c.self.inside.values.keys in
+    elim c.match-insert_full.branch [ in-Ok w ↦ ? | in-Err w ↦ ? ]
