@@ -99,7 +99,7 @@ pub struct BlockItem {
 }
 
 /// The data of a malformed message (RFC 8618 7.3.2.3.5).
-#[derive(Debug, Drop)]
+#[derive(Debug, Drop, PartialEq, Eq, Hash)]
 pub struct BlockData {
     /// The index of the server's address in `ip_address`.
     pub server_address: Option<u64>,
@@ -123,7 +123,7 @@ pub struct BlockMalformed {
 }
 
 /// A block with its nine tables (RFC 8618 7.3.2).
-#[derive(Debug, Drop)]
+#[derive(Debug, Drop, PartialEq, Eq)]
 pub struct Block {
     pub earliest: Option<Stamp>,
     /// The index of its block parameters in those of the file.

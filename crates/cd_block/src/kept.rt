@@ -5,7 +5,7 @@ use crate::stats::Stats;
 use cd_name::{Blob, List, Name};
 
 /// A question (RFC 8618 7.3.2.3.3).
-#[derive(Debug, Drop)]
+#[derive(Debug, Drop, PartialEq, Eq)]
 pub struct KeptQuestion {
     pub name: Name,
     pub rtype: u16,
@@ -13,7 +13,7 @@ pub struct KeptQuestion {
 }
 
 /// A resource record (RFC 8618 7.3.2.3.4), with the TTL in seconds.
-#[derive(Debug, Drop)]
+#[derive(Debug, Drop, PartialEq, Eq)]
 pub struct KeptRr {
     pub name: Name,
     pub rtype: u16,
@@ -24,7 +24,7 @@ pub struct KeptRr {
 
 /// The extended part of a query or a response (RFC 8618 7.3.2.4.2). An empty list is an absent one, and a part with no list is
 /// absent.
-#[derive(Debug, Drop)]
+#[derive(Debug, Drop, PartialEq, Eq)]
 pub struct KeptLists {
     /// The questions after the first one.
     pub question: List<KeptQuestion>,
@@ -34,7 +34,7 @@ pub struct KeptLists {
 }
 
 /// A query-response signature (RFC 8618 7.3.2.3.2).
-#[derive(Debug, Drop)]
+#[derive(Debug, Drop, PartialEq, Eq)]
 pub struct KeptSig {
     /// The first bytes of the server's address, as many as its prefix takes.
     pub server_address: Option<Blob>,
@@ -68,7 +68,7 @@ pub struct KeptSig {
 }
 
 /// A query-response item: a query and its response, or one of them alone (RFC 8618 7.3.2.4).
-#[derive(Debug, Drop)]
+#[derive(Debug, Drop, PartialEq, Eq)]
 pub struct KeptItem {
     /// Ticks since the earliest time of the block.
     pub time_offset: Option<u64>,
@@ -93,7 +93,7 @@ pub struct KeptItem {
 }
 
 /// The data of a malformed message (RFC 8618 7.3.2.3.5).
-#[derive(Debug, Drop)]
+#[derive(Debug, Drop, PartialEq, Eq)]
 pub struct KeptData {
     /// The first bytes of the server's address, as many as its prefix takes.
     pub server_address: Option<Blob>,
@@ -105,7 +105,7 @@ pub struct KeptData {
 }
 
 /// A malformed message (RFC 8618 7.3.2.6).
-#[derive(Debug, Drop)]
+#[derive(Debug, Drop, PartialEq, Eq)]
 pub struct KeptMalformed {
     /// Ticks since the earliest time of the block.
     pub time_offset: Option<u64>,
@@ -116,7 +116,7 @@ pub struct KeptMalformed {
 }
 
 /// A block with each value where it belongs (RFC 8618 7.3.2).
-#[derive(Debug, Drop)]
+#[derive(Debug, Drop, PartialEq, Eq)]
 pub struct KeptBlock {
     pub earliest: Option<Stamp>,
     /// The index of its block parameters in those of the file.

@@ -1,12 +1,13 @@
-//! Laws of the format's numbers: each table of RFC 8618 7.3 as it stands there. A law is the contract of a function that does
-//! nothing.
+//! Laws of the format's numbers: the keys of RFC 8618 7.3, the bits of its hints and its flags, each as it stands there. Of
+//! collection parameters the first two keys have constants, the others have none. A law is the contract of a function that
+//! does nothing.
 
 ghost use Rattle.std.specs.Prelude.{◌≡◌, [], ◌∷◌};
 ghost use Rattle.cd_block.specs.KeyTables.{preamble_keys, block_parameter_keys, storage_keys, hint_keys, collection_keys, block_keys, block_preamble_keys, statistics_keys, tables_keys, classtype_keys, signature_keys, question_keys, rr_keys, malformed_data_keys, item_keys, extended_keys, malformed_keys};
 ghost use Rattle.cd_block.specs.HintTables.{item_hints, signature_hints, rr_hints, other_hints};
 ghost use Rattle.cd_block.specs.FlagTables.{storage_flags, transport_flags, signature_flags, query_flags, response_flags};
 
-/// The keys of each map of a file (RFC 8618 7.3).
+/// The keys of each map of a file (RFC 8618 7.3), but of collection parameters only the first two.
 pub fn keys_are_those_of_the_format()
     ensures preamble { preamble_keys ≡ 0 ∷ 1 ∷ 2 ∷ 3 ∷ [] }
     ensures block_parameter { block_parameter_keys ≡ 0 ∷ 1 ∷ [] }
@@ -28,7 +29,8 @@ pub fn keys_are_those_of_the_format()
     ensures malformed { malformed_keys ≡ 0 ∷ 1 ∷ 2 ∷ 3 ∷ [] }
 {}
 
-/// The bits of storage hints (RFC 8618 7.3.1.1.1.1). The hint of a key of an item or of a signature has the bit of that key.
+/// The bits of storage hints (RFC 8618 7.3.1.1.1.1). The hint of a key of a signature has the bit of that key, and so has the
+/// hint of a key of an item from 0 to 10. An item's hints above those are of lists in its extended parts.
 pub fn hints_are_those_of_the_format()
     ensures item { item_hints ≡
         1 ∷ 2 ∷ 4 ∷ 8 ∷ 16 ∷ 32 ∷ 64 ∷ 128 ∷ 256 ∷ 512 ∷ 1024 ∷ 2048 ∷ 4096 ∷ 8192 ∷ 16384 ∷ 32768 ∷ 65536 ∷ 131072 ∷ [] }

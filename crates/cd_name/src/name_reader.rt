@@ -16,8 +16,8 @@ use std::marker::Model;
 /// To read a name takes at most one step for each of its labels, which are at most 127, and two for each pointer
 /// between them. A pointer that leads to a pointer is followed on to where that one leads. Once some 100 were, a table
 /// keeps where each offset below 16,384 leads, so that each of them is followed on at most twice more, however many
-/// names lead to it. So the steps of a message are bounded by a small multiple of its size. Where no memory is found
-/// for the table, names are read without it.
+/// names lead to it. Where no memory is found for the table, names are read without it. No contract speaks of the
+/// number of steps.
 #[derive(Drop)]
 pub struct NameReader<'p> {
     leads: Leads<'p>,
