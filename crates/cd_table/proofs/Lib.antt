@@ -1,1 +1,9 @@
 pub mod Images
+pub mod Distinct
+pub mod Places
+pub mod Tests
+pub mod Parts
+pub mod Sound
+pub mod Stepping
+pub mod Steps
+pub mod Built

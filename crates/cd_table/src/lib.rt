@@ -1,8 +1,12 @@
 //! The block of a kept block.
 #![tactic(auto)]
 
+mod building;
+mod items;
+mod malformed;
+mod records;
 mod slice_table;
+mod tables;
 mod value_table;
 
-pub use slice_table::SliceTable;
-pub use value_table::ValueTable;
+pub use building::build;

@@ -5,6 +5,7 @@ ghost use Rattle.std.specs.List.{position, position_or_len};
 ghost use Rattle.std.specs.Cmp.Lexicographic.{pointwise};
 ghost use Rattle.cd_table.specs.Interning.{put};
 
+use cd_name::{Blob, List};
 use indexmap::IndexSet;
 use std::alloc::{AllocError, Global};
 use std::hash::Hash;
@@ -68,5 +69,33 @@ impl<T: Copy + Eq + Hash> SliceTable<T> {
         }
         let copy = Vec::from_slice(self.alloc, items)?;
         self.insert(copy)
+    }
+}
+
+impl SliceTable<u8> {
+    /// The lists in their order, which are not copied.
+    pub fn into_blobs(self, alloc: Global) -> Result<List<Blob>, AllocError>
+        ensures { IfOk result (λ blobs. blobs ≡ self) }
+    {
+        let blobs = self
+            .values
+            .into_iter()
+            .map(|bytes| Blob::from_vec(bytes))
+            .collect(alloc)?;
+        Ok(List::from_vec(blobs))
+    }
+}
+
+impl SliceTable<u64> {
+    /// The lists in their order, which are not copied.
+    pub fn into_lists(self, alloc: Global) -> Result<List<List<u64>>, AllocError>
+        ensures { IfOk result (λ lists. lists ≡ self) }
+    {
+        let lists = self
+            .values
+            .into_iter()
+            .map(|indexes| List::from_vec(indexes))
+            .collect(alloc)?;
+        Ok(List::from_vec(lists))
     }
 }

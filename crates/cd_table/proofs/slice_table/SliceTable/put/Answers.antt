@@ -5,5 +5,4 @@ use Rattle.cd_table.proofs.slice_table.SliceTable.put.Goals as goal
 
 pub returns-in-Some-clause-table : goal.returns-in-Some-clause-table
 returns-in-Some-clause-table g c =
-    let has = table_has (pointwise g.T.PartialEq.eq) c.args.self.now c.args.items.now c.in-Some.index c.in-Some.ensures in
-    has.0
+    table_has (pointwise g.T.PartialEq.eq) c.args.self.now c.args.items.now c.in-Some.index c.in-Some.ensures
