@@ -6,4 +6,5 @@ pub mod Parts
 pub mod Sound
 pub mod Stepping
 pub mod Steps
+pub mod Loops
 pub mod Built

@@ -19,6 +19,15 @@ each_next {A} step xs k x front t within at =
     drop-cons xs k x within ∙ ap (λ y. y ∷ drop (suc k) xs) (sym at) ∙ ap (λ n. x ∷ drop n xs) (sym (add-one k)) in
     ap (λ l. in_front front (each step l t)) split ∙ each_cons step x (drop (k + 1) xs) front t
 
+-- one turn of the loop
+pub each_turn : {A B : Type 0} (step : A → Growing B) (all xs : List A) (k : ℕ) (x : A) (v : B) (front longer : List B) (first t next : Tables) → each step all first ≡ in_front front (each step (drop k xs) t) → k < length xs → x ≡ get_or xs k x → longer ≡ front ++ v ∷ [] → v ≡ (step x t).value → next ≡ (step x t).tables → each step all first ≡ in_front longer (each step (drop (k + 1) xs) next)
+each_turn step all xs k x v front longer first t next so within at more value tables =
+    let rest = drop (k + 1) xs in
+    so ∙ each_next step xs k x front t within at
+    ∙ ap (λ w. in_front (front ++ w ∷ []) (each step rest (step x t).tables)) (sym value)
+    ∙ ap (λ l. in_front l (each step rest (step x t).tables)) (sym more)
+    ∙ ap (λ u. in_front longer (each step rest u)) (sym tables)
+
 -- after the last turn nothing is left
 pub each_done : {A B : Type 0} (step : A → Growing B) (xs : List A) (k : ℕ) (front : List B) (t : Tables) → length xs ≤ k → in_front front (each step (drop k xs) t) ≡ record { tables = t; value = front }
 unfolding each

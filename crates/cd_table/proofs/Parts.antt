@@ -90,6 +90,9 @@ list_agree index same P agree (x ∷ xs) (y ∷ ys) h k =
     ap (λ b. b && pointwise nat_eq (map index xs) (map index ys)) (agree x y h.0 k.0)
     ∙ ap (λ b. same x y && b) (list_agree index same P agree xs ys h.1 k.1)
 
+and_same : (p q r s : Bool) → p ≡ q → r ≡ s → (p && r) ≡ (q && s)
+and_same p q r s h k = ap (λ b. b && r) h ∙ ap (λ b. q && b) k
+
 and_regroup : (n p q r : Bool) → (n && ((p && q) && r)) ≡ (n && (p && (q && r)))
 and_regroup n true q r = refl
 and_regroup n false q r = refl
@@ -117,7 +120,52 @@ module _ (F : KeptTables) where
       let address = option_agree (address_index F) same_bytes (HasAddress F) address_agree a.server_address b.server_address h.server_address k.server_address in
       let lead = option_agree (classtype_index F) same_classtype (HasClasstype F) classtype_agree a.classtype b.classtype h.classtype k.classtype in
       let options = option_agree (bytes_index F) same_bytes (HasBytes F) bytes_agree a.opt_rdata b.opt_rdata h.opt_rdata k.opt_rdata in
-      rw (address, lead, options)
+      let t15 : Bool = option_eq nat_eq a.response_rcode b.response_rcode in
+      let t14 : Bool = option_eq same_bytes a.opt_rdata b.opt_rdata && t15 in
+      let t13 : Bool = option_eq nat_eq a.udp_size b.udp_size && t14 in
+      let t12 : Bool = option_eq nat_eq a.edns_version b.edns_version && t13 in
+      let t11 : Bool = option_eq nat_eq a.ar b.ar && t12 in
+      let t10 : Bool = option_eq nat_eq a.ns b.ns && t11 in
+      let t9 : Bool = option_eq nat_eq a.an b.an && t10 in
+      let t8 : Bool = option_eq nat_eq a.qd b.qd && t9 in
+      let t7 : Bool = option_eq same_classtype a.classtype b.classtype && t8 in
+      let t6 : Bool = option_eq nat_eq a.query_rcode b.query_rcode && t7 in
+      let t5 : Bool = option_eq nat_eq a.dns_flags b.dns_flags && t6 in
+      let t4 : Bool = option_eq nat_eq a.opcode b.opcode && t5 in
+      let t3 : Bool = option_eq nat_eq a.sig_flags b.sig_flags && t4 in
+      let t2 : Bool = option_eq nat_eq a.transport_flags b.transport_flags && t3 in
+      let t1 : Bool = option_eq nat_eq a.server_port b.server_port && t2 in
+      let u15 : Bool = option_eq nat_eq a.response_rcode b.response_rcode in
+      let u14 : Bool = option_eq nat_eq (option_map (bytes_index F) a.opt_rdata) (option_map (bytes_index F) b.opt_rdata) && u15 in
+      let u13 : Bool = option_eq nat_eq a.udp_size b.udp_size && u14 in
+      let u12 : Bool = option_eq nat_eq a.edns_version b.edns_version && u13 in
+      let u11 : Bool = option_eq nat_eq a.ar b.ar && u12 in
+      let u10 : Bool = option_eq nat_eq a.ns b.ns && u11 in
+      let u9 : Bool = option_eq nat_eq a.an b.an && u10 in
+      let u8 : Bool = option_eq nat_eq a.qd b.qd && u9 in
+      let u7 : Bool = option_eq nat_eq (option_map (classtype_index F) a.classtype) (option_map (classtype_index F) b.classtype) && u8 in
+      let u6 : Bool = option_eq nat_eq a.query_rcode b.query_rcode && u7 in
+      let u5 : Bool = option_eq nat_eq a.dns_flags b.dns_flags && u6 in
+      let u4 : Bool = option_eq nat_eq a.opcode b.opcode && u5 in
+      let u3 : Bool = option_eq nat_eq a.sig_flags b.sig_flags && u4 in
+      let u2 : Bool = option_eq nat_eq a.transport_flags b.transport_flags && u3 in
+      let u1 : Bool = option_eq nat_eq a.server_port b.server_port && u2 in
+      let e15 : u15 ≡ t15 = refl in
+      let e14 : u14 ≡ t14 = and_same (option_eq nat_eq (option_map (bytes_index F) a.opt_rdata) (option_map (bytes_index F) b.opt_rdata)) (option_eq same_bytes a.opt_rdata b.opt_rdata) u15 t15 options e15 in
+      let e13 : u13 ≡ t13 = ap (λ q. option_eq nat_eq a.udp_size b.udp_size && q) e14 in
+      let e12 : u12 ≡ t12 = ap (λ q. option_eq nat_eq a.edns_version b.edns_version && q) e13 in
+      let e11 : u11 ≡ t11 = ap (λ q. option_eq nat_eq a.ar b.ar && q) e12 in
+      let e10 : u10 ≡ t10 = ap (λ q. option_eq nat_eq a.ns b.ns && q) e11 in
+      let e9 : u9 ≡ t9 = ap (λ q. option_eq nat_eq a.an b.an && q) e10 in
+      let e8 : u8 ≡ t8 = ap (λ q. option_eq nat_eq a.qd b.qd && q) e9 in
+      let e7 : u7 ≡ t7 = and_same (option_eq nat_eq (option_map (classtype_index F) a.classtype) (option_map (classtype_index F) b.classtype)) (option_eq same_classtype a.classtype b.classtype) u8 t8 lead e8 in
+      let e6 : u6 ≡ t6 = ap (λ q. option_eq nat_eq a.query_rcode b.query_rcode && q) e7 in
+      let e5 : u5 ≡ t5 = ap (λ q. option_eq nat_eq a.dns_flags b.dns_flags && q) e6 in
+      let e4 : u4 ≡ t4 = ap (λ q. option_eq nat_eq a.opcode b.opcode && q) e5 in
+      let e3 : u3 ≡ t3 = ap (λ q. option_eq nat_eq a.sig_flags b.sig_flags && q) e4 in
+      let e2 : u2 ≡ t2 = ap (λ q. option_eq nat_eq a.transport_flags b.transport_flags && q) e3 in
+      let e1 : u1 ≡ t1 = ap (λ q. option_eq nat_eq a.server_port b.server_port && q) e2 in
+      and_same (option_eq nat_eq (option_map (address_index F) a.server_address) (option_map (address_index F) b.server_address)) (option_eq same_bytes a.server_address b.server_address) u1 t1 address e1
 
   -- questions
   pub question_agree : (a b : KeptQuestion) → QuestionParts F a → QuestionParts F b → same_block_question (indexed_question F a) (indexed_question F b) ≡ same_question a b

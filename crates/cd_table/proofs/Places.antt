@@ -80,21 +80,23 @@ later_zero n = grind (arith, nat_tests)
 both_later : (m n : ℕ) → nat_eq (1 + m) (1 + n) ≡ nat_eq m n
 both_later m n = grind (arith, nat_tests)
 
+-- where neither value is the first one, their places are equal where those among the others are
+places_from : {T : Type 0} (same : T → T → Bool) → ((a b : T) → Decides (same a b) (a ≡ b)) → (x : T) (xs : List T) (a b : T) → ((list_any (same a) xs ≡ true) → (list_any (same b) xs ≡ true) → nat_eq (position_or_len (same a) xs) (position_or_len (same b) xs) ≡ same a b) → (p q : Bool) → same a x ≡ p → same b x ≡ q → (p || list_any (same a) xs) ≡ true → (q || list_any (same b) xs) ≡ true → nat_eq (cond (not p) (1 + position_or_len (same a) xs) 0) (cond (not q) (1 + position_or_len (same b) xs) 0) ≡ same a b
+places_from same decides x xs a b others true true e f h k =
+    let ax = (decides a x).0 e in
+    let bx = (decides b x).0 f in
+    sym ((decides a b).1 (ax ∙ sym bx))
+places_from same decides x xs a b others true false e f h k =
+    let ax = (decides a x).0 e in
+    zero_later (position_or_len (same b) xs) ∙ sym (ap (λ y. same y b) ax ∙ same-sym same decides x b ∙ f)
+places_from same decides x xs a b others false true e f h k =
+    let bx = (decides b x).0 f in
+    later_zero (position_or_len (same a) xs) ∙ sym (ap (λ y. same a y) bx ∙ e)
+places_from same decides x xs a b others false false e f h k =
+    both_later (position_or_len (same a) xs) (position_or_len (same b) xs) ∙ others h k
+
 -- two values of a table have one place where they are equal
 pub same_places : {T : Type 0} (same : T → T → Bool) → ((a b : T) → Decides (same a b) (a ≡ b)) → (xs : List T) (a b : T) → list_any (same a) xs ≡ true → list_any (same b) xs ≡ true → nat_eq (position_or_len (same a) xs) (position_or_len (same b) xs) ≡ same a b
 same_places same decides [] a b h k = absurd cc
-same_places {T} same decides (x ∷ xs) a b h k = cases (same a x) (same b x) refl refl h k
-  where
-    cases : (p q : Bool) → same a x ≡ p → same b x ≡ q → (p || list_any (same a) xs) ≡ true → (q || list_any (same b) xs) ≡ true → nat_eq (cond (not p) (1 + position_or_len (same a) xs) 0) (cond (not q) (1 + position_or_len (same b) xs) 0) ≡ same a b
-    cases true true e f h k =
-        let ax = (decides a x).0 e in
-        let bx = (decides b x).0 f in
-        sym ((decides a b).1 (ax ∙ sym bx))
-    cases true false e f h k =
-        let ax = (decides a x).0 e in
-        zero_later (position_or_len (same b) xs) ∙ sym (ap (λ y. same y b) ax ∙ same-sym same decides x b ∙ f)
-    cases false true e f h k =
-        let bx = (decides b x).0 f in
-        later_zero (position_or_len (same a) xs) ∙ sym (ap (λ y. same a y) bx ∙ e)
-    cases false false e f h k =
-        both_later (position_or_len (same a) xs) (position_or_len (same b) xs) ∙ same_places same decides xs a b h k
+same_places same decides (x ∷ xs) a b h k =
+    places_from same decides x xs a b (same_places same decides xs a b) (same a x) (same b x) refl refl h k

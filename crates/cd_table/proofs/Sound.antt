@@ -231,14 +231,14 @@ module _ (F : KeptTables) where
         (each_sound visited_item item_sound b.items (all_left Covered items malformed h))
         (each_sound visited_malformed malformed_sound b.malformed (all_right Covered items malformed h))
 
+  one_more : {T : Type 0} (P : T → Type 0) (o : Option T) (xs : List T) → Present P o → AllByRecursion P xs → AllByRecursion P (cons_option o xs)
+  one_more P None xs p h = h
+  one_more P (Some x) xs p h = (p, h)
+
   -- what holds of each value that is gone through holds of each one of a kind
   pub kind_sound : {T : Type 0} (kind : Visited → Option T) (P : T → Type 0) → ((v : Visited) → Sound v → Present P (kind v)) → (vs : List Visited) → AllSound vs → AllByRecursion P (used kind vs)
   kind_sound kind P each [] h = tt
-  kind_sound {T} kind P each (v ∷ vs) h = by (kind v) (each v h.0)
-    where
-      by : (o : Option T) → Present P o → AllByRecursion P (cons_option o (used kind vs))
-      by None p = kind_sound kind P each vs h.1
-      by (Some x) p = (p, kind_sound kind P each vs h.1)
+  kind_sound kind P each (v ∷ vs) h = one_more P (kind v) (used kind vs) (each v h.0) (kind_sound kind P each vs h.1)
 
   pub sound_signature : (v : Visited) → Sound v → Present (SignatureParts F) (as_signature v)
   sound_signature (Signature s) h = h

@@ -21,7 +21,7 @@ use Rattle.cd_table.proofs.Places.{place_stays, index_is_place}
 use Rattle.cd_table.proofs.Sound.{Covered, all_left, all_right, all_both}
 
 -- tables that are equal one by one
-tables_path : (a b : Tables) → a.ip_address ≡ b.ip_address → a.classtype ≡ b.classtype → a.name_rdata ≡ b.name_rdata → a.qr_sig ≡ b.qr_sig → a.qlist ≡ b.qlist → a.qrr ≡ b.qrr → a.rrlist ≡ b.rrlist → a.rr ≡ b.rr → a.malformed_message_data ≡ b.malformed_message_data → a ≡ b
+pub tables_path : (a b : Tables) → a.ip_address ≡ b.ip_address → a.classtype ≡ b.classtype → a.name_rdata ≡ b.name_rdata → a.qr_sig ≡ b.qr_sig → a.qlist ≡ b.qlist → a.qrr ≡ b.qrr → a.rrlist ≡ b.rrlist → a.rr ≡ b.rr → a.malformed_message_data ≡ b.malformed_message_data → a ≡ b
 tables_path a b p q r s t u v w x =
     λ i. record {
       ip_address = p i;

@@ -35,48 +35,48 @@ pub record Closed (F : KeptTables) : Type 0 where
 
 module _ (F : KeptTables) where
   pub address_goes : (a : List ℕ) → Goes F (put_address a) (visited_address a) (address_index F a)
-  unfolding (put_address, grown, image)
+  unfolding put_address grown image
   address_goes a t ws l =
       (refl, index_at_end same_bytes t.ip_address (used as_address ws) F.ip_address a ((bytes_decides a a).1 refl) (ap (λ u. u.ip_address) l.whole))
 
   pub classtype_goes : (c : ℕ × ℕ) → Goes F (put_classtype c) (visited_classtype c) (classtype_index F c)
-  unfolding (put_classtype, grown, image)
+  unfolding put_classtype grown image
   classtype_goes c t ws l =
       (refl, index_at_end same_classtype t.classtype (used as_classtype ws) F.classtype c ((classtype_decides c c).1 refl) (ap (λ u. u.classtype) l.whole))
 
   pub bytes_goes : (b : List ℕ) → Goes F (put_bytes b) (visited_bytes b) (bytes_index F b)
-  unfolding (put_bytes, grown, image)
+  unfolding put_bytes grown image
   bytes_goes b t ws l =
       (refl, index_at_end same_bytes t.name_rdata (used as_bytes ws) F.name_rdata b ((bytes_decides b b).1 refl) (ap (λ u. u.name_rdata) l.whole))
 
 module _ (F : KeptTables) (closed : Closed F) where
   signature_put : (s : KeptSig) → SignatureParts F s → Goes F (put_block_signature (indexed_signature F s)) (Signature s ∷ []) (signature_index F s)
-  unfolding (put_block_signature, grown, image)
+  unfolding put_block_signature grown image
   signature_put s parts t ws l =
       (refl, image_at_end (indexed_signature F) same_block_signature same_signature (SignatureParts F) (signature_agree F) t.qr_sig (map (indexed_signature F) (used as_signature ws)) F.qr_sig s parts ((signature_decides s s).1 refl) closed.signatures (ap (λ u. u.qr_sig) l.whole))
 
   question_put : (q : KeptQuestion) → QuestionParts F q → Goes F (put_block_question (indexed_question F q)) (Question q ∷ []) (question_index F q)
-  unfolding (put_block_question, grown, image)
+  unfolding put_block_question grown image
   question_put q parts t ws l =
       (refl, image_at_end (indexed_question F) same_block_question same_question (QuestionParts F) (question_agree F) t.qrr (map (indexed_question F) (used as_question ws)) F.qrr q parts ((question_decides q q).1 refl) closed.questions (ap (λ u. u.qrr) l.whole))
 
   record_put : (r : KeptRr) → RecordParts F r → Goes F (put_block_record (indexed_record F r)) (Record r ∷ []) (record_index F r)
-  unfolding (put_block_record, grown, image)
+  unfolding put_block_record grown image
   record_put r parts t ws l =
       (refl, image_at_end (indexed_record F) same_block_record same_record (RecordParts F) (record_agree F) t.rr (map (indexed_record F) (used as_record ws)) F.rr r parts ((record_decides r r).1 refl) closed.records (ap (λ u. u.rr) l.whole))
 
   data_put : (d : KeptData) → DataParts F d → Goes F (put_block_data (indexed_data F d)) (MalformedData d ∷ []) (data_index F d)
-  unfolding (put_block_data, grown, image)
+  unfolding put_block_data grown image
   data_put d parts t ws l =
       (refl, image_at_end (indexed_data F) same_block_data same_data (DataParts F) (data_agree F) t.malformed_message_data (map (indexed_data F) (used as_data ws)) F.malformed_message_data d parts ((data_decides d d).1 refl) closed.malformed_data (ap (λ u. u.malformed_message_data) l.whole))
 
   question_list_put : (q : KeptQuestion) (qs : List KeptQuestion) → QuestionsParts F (q ∷ qs) → Goes F (put_question_indexes (map (question_index F) (q ∷ qs)) >>= (λ k. give (Some k))) (QuestionList (q ∷ qs) ∷ []) (question_list_index F (q ∷ qs))
-  unfolding (put_question_indexes, grown, image)
+  unfolding put_question_indexes grown image
   question_list_put q qs parts t ws l =
       (refl, ap (λ k. Some k) (image_at_end (map (question_index F)) same_indexes same_questions (QuestionsParts F) (question_list_agree F) t.qlist (map (map (question_index F)) (used as_question_list ws)) F.qlist (q ∷ qs) parts ((questions_decides (q ∷ qs) (q ∷ qs)).1 refl) closed.question_lists (ap (λ u. u.qlist) l.whole)))
 
   record_list_put : (r : KeptRr) (rs : List KeptRr) → RecordsParts F (r ∷ rs) → Goes F (put_record_indexes (map (record_index F) (r ∷ rs)) >>= (λ k. give (Some k))) (RecordList (r ∷ rs) ∷ []) (record_list_index F (r ∷ rs))
-  unfolding (put_record_indexes, grown, image)
+  unfolding put_record_indexes grown image
   record_list_put r rs parts t ws l =
       (refl, ap (λ k. Some k) (image_at_end (map (record_index F)) same_indexes same_records (RecordsParts F) (record_list_agree F) t.rrlist (map (map (record_index F)) (used as_record_list ws)) F.rrlist (r ∷ rs) parts ((records_decides (r ∷ rs) (r ∷ rs)).1 refl) closed.record_lists (ap (λ u. u.rrlist) l.whole)))
 
@@ -102,49 +102,49 @@ module _ (F : KeptTables) (closed : Closed F) where
   signature_covers s (Some a) (Some c) None h = (h.1.0, (h.1.1.0, (h.0, tt)))
   signature_covers s (Some a) (Some c) (Some b) h = (h.1.0, (h.1.1.0, (h.1.1.1.0, (h.0, tt))))
 
+  signature_in_turn : (s : KeptSig) → SignatureParts F s → Goes F (put_signature s) (visited_signature s) (signature_index F s)
+  unfolding put_signature visited_signature indexed_signature
+  signature_in_turn s parts =
+      let a : List Visited = where_present visited_address s.server_address in
+      let c : List Visited = where_present visited_classtype s.classtype in
+      let b : List Visited = where_present visited_bytes s.opt_rdata in
+      let x : Option ℕ = option_map (address_index F) s.server_address in
+      let y : Option ℕ = option_map (classtype_index F) s.classtype in
+      let z : Option ℕ = option_map (bytes_index F) s.opt_rdata in
+      let i : ℕ = signature_index F s in
+      let last = in_turn F (if_present put_bytes s.opt_rdata) (λ opt_rdata. put_block_signature (signature_at s x y opt_rdata)) b (Signature s ∷ []) z i
+        (optional F put_bytes visited_bytes (bytes_index F) (bytes_goes F) s.opt_rdata) (signature_put s parts) in
+      let middle = in_turn F (if_present put_classtype s.classtype) (λ classtype. if_present put_bytes s.opt_rdata >>= (λ opt_rdata. put_block_signature (signature_at s x classtype opt_rdata))) c (b ++ Signature s ∷ []) y i
+        (optional F put_classtype visited_classtype (classtype_index F) (classtype_goes F) s.classtype) last in
+      let all = in_turn F (if_present put_address s.server_address) (λ server_address. if_present put_classtype s.classtype >>= (λ classtype. if_present put_bytes s.opt_rdata >>= (λ opt_rdata. put_block_signature (signature_at s server_address classtype opt_rdata)))) a (c ++ (b ++ Signature s ∷ [])) x i
+        (optional F put_address visited_address (address_index F) (address_goes F) s.server_address) middle in
+      reordered F (put_signature s) (a ++ (c ++ (b ++ Signature s ∷ []))) (Signature s ∷ a ++ c ++ b) i
+        (signature_order s s.server_address s.classtype s.opt_rdata) (signature_covers s s.server_address s.classtype s.opt_rdata) all
+
   pub signature_goes : (s : KeptSig) → Goes F (put_signature s) (visited_signature s) (signature_index F s)
   signature_goes s t ws l =
       signature_in_turn s (signature_parts F s (all_left (Covered F) (visited_signature s) ws l.covered)) t ws l
-    where
-      signature_in_turn : (s : KeptSig) → SignatureParts F s → Goes F (put_signature s) (visited_signature s) (signature_index F s)
-      unfolding (put_signature, visited_signature, indexed_signature)
-      signature_in_turn s parts =
-          let a : List Visited = where_present visited_address s.server_address in
-          let c : List Visited = where_present visited_classtype s.classtype in
-          let b : List Visited = where_present visited_bytes s.opt_rdata in
-          let x : Option ℕ = option_map (address_index F) s.server_address in
-          let y : Option ℕ = option_map (classtype_index F) s.classtype in
-          let z : Option ℕ = option_map (bytes_index F) s.opt_rdata in
-          let i : ℕ = signature_index F s in
-          let last = in_turn F (if_present put_bytes s.opt_rdata) (λ opt_rdata. put_block_signature (signature_at s x y opt_rdata)) b (Signature s ∷ []) z i
-            (optional F put_bytes visited_bytes (bytes_index F) (bytes_goes F) s.opt_rdata) (signature_put s parts) in
-          let middle = in_turn F (if_present put_classtype s.classtype) (λ classtype. if_present put_bytes s.opt_rdata >>= (λ opt_rdata. put_block_signature (signature_at s x classtype opt_rdata))) c (b ++ Signature s ∷ []) y i
-            (optional F put_classtype visited_classtype (classtype_index F) (classtype_goes F) s.classtype) last in
-          let all = in_turn F (if_present put_address s.server_address) (λ server_address. if_present put_classtype s.classtype >>= (λ classtype. if_present put_bytes s.opt_rdata >>= (λ opt_rdata. put_block_signature (signature_at s server_address classtype opt_rdata)))) a (c ++ (b ++ Signature s ∷ [])) x i
-            (optional F put_address visited_address (address_index F) (address_goes F) s.server_address) middle in
-          reordered F (put_signature s) (a ++ (c ++ (b ++ Signature s ∷ []))) (Signature s ∷ a ++ c ++ b) i
-            (signature_order s s.server_address s.classtype s.opt_rdata) (signature_covers s s.server_address s.classtype s.opt_rdata) all
 
   question_order : (q : KeptQuestion) (t : Tables) → grown F t (NameOrRdata q.name ∷ ClassType (q.rtype, q.rclass) ∷ Question q ∷ []) ≡ grown F t (Question q ∷ NameOrRdata q.name ∷ ClassType (q.rtype, q.rclass) ∷ [])
   unfolding grown
   question_order q t = refl
 
+  question_in_turn : (q : KeptQuestion) → QuestionParts F q → Goes F (put_question q) (visited_question q) (question_index F q)
+  unfolding put_question visited_question indexed_question
+  question_in_turn q parts =
+      let x : ℕ = bytes_index F q.name in
+      let y : ℕ = classtype_index F (q.rtype, q.rclass) in
+      let i : ℕ = question_index F q in
+      let last = in_turn F (put_classtype (q.rtype, q.rclass)) (λ classtype. put_block_question (record { name = x; classtype = classtype })) (ClassType (q.rtype, q.rclass) ∷ []) (Question q ∷ []) y i
+        (classtype_goes F (q.rtype, q.rclass)) (question_put q parts) in
+      let all = in_turn F (put_bytes q.name) (λ name. put_classtype (q.rtype, q.rclass) >>= (λ classtype. put_block_question (record { name = name; classtype = classtype }))) (NameOrRdata q.name ∷ []) (ClassType (q.rtype, q.rclass) ∷ Question q ∷ []) x i
+        (bytes_goes F q.name) last in
+      reordered F (put_question q) (NameOrRdata q.name ∷ ClassType (q.rtype, q.rclass) ∷ Question q ∷ []) (Question q ∷ NameOrRdata q.name ∷ ClassType (q.rtype, q.rclass) ∷ []) i
+        (question_order q) (λ h. (h.1.0, (h.1.1.0, (h.0, tt)))) all
+
   pub question_goes : (q : KeptQuestion) → Goes F (put_question q) (visited_question q) (question_index F q)
   question_goes q t ws l =
       question_in_turn q (question_parts F q (all_left (Covered F) (visited_question q) ws l.covered)) t ws l
-    where
-      question_in_turn : (q : KeptQuestion) → QuestionParts F q → Goes F (put_question q) (visited_question q) (question_index F q)
-      unfolding (put_question, visited_question, indexed_question)
-      question_in_turn q parts =
-          let x : ℕ = bytes_index F q.name in
-          let y : ℕ = classtype_index F (q.rtype, q.rclass) in
-          let i : ℕ = question_index F q in
-          let last = in_turn F (put_classtype (q.rtype, q.rclass)) (λ classtype. put_block_question (record { name = x; classtype = classtype })) (ClassType (q.rtype, q.rclass) ∷ []) (Question q ∷ []) y i
-            (classtype_goes F (q.rtype, q.rclass)) (question_put q parts) in
-          let all = in_turn F (put_bytes q.name) (λ name. put_classtype (q.rtype, q.rclass) >>= (λ classtype. put_block_question (record { name = name; classtype = classtype }))) (NameOrRdata q.name ∷ []) (ClassType (q.rtype, q.rclass) ∷ Question q ∷ []) x i
-            (bytes_goes F q.name) last in
-          reordered F (put_question q) (NameOrRdata q.name ∷ ClassType (q.rtype, q.rclass) ∷ Question q ∷ []) (Question q ∷ NameOrRdata q.name ∷ ClassType (q.rtype, q.rclass) ∷ []) i
-            (question_order q) (λ h. (h.1.0, (h.1.1.0, (h.0, tt)))) all
 
   record_order : (r : KeptRr) (b : Option (List ℕ)) (t : Tables) → grown F t (NameOrRdata r.name ∷ ClassType (r.rtype, r.rclass) ∷ (where_present visited_bytes b ++ Record r ∷ [])) ≡ grown F t (Record r ∷ NameOrRdata r.name ∷ ClassType (r.rtype, r.rclass) ∷ where_present visited_bytes b)
   unfolding grown
@@ -155,26 +155,26 @@ module _ (F : KeptTables) (closed : Closed F) where
   record_covers r None h = (h.1.0, (h.1.1.0, (h.0, tt)))
   record_covers r (Some b) h = (h.1.0, (h.1.1.0, (h.1.1.1.0, (h.0, tt))))
 
+  record_in_turn : (r : KeptRr) → RecordParts F r → Goes F (put_record r) (visited_record r) (record_index F r)
+  unfolding put_record visited_record indexed_record
+  record_in_turn r parts =
+      let b : List Visited = where_present visited_bytes r.rdata in
+      let x : ℕ = bytes_index F r.name in
+      let y : ℕ = classtype_index F (r.rtype, r.rclass) in
+      let z : Option ℕ = option_map (bytes_index F) r.rdata in
+      let i : ℕ = record_index F r in
+      let last = in_turn F (if_present put_bytes r.rdata) (λ rdata. put_block_record (record { name = x; classtype = y; ttl = r.ttl; rdata = rdata })) b (Record r ∷ []) z i
+        (optional F put_bytes visited_bytes (bytes_index F) (bytes_goes F) r.rdata) (record_put r parts) in
+      let middle = in_turn F (put_classtype (r.rtype, r.rclass)) (λ classtype. if_present put_bytes r.rdata >>= (λ rdata. put_block_record (record { name = x; classtype = classtype; ttl = r.ttl; rdata = rdata }))) (ClassType (r.rtype, r.rclass) ∷ []) (b ++ Record r ∷ []) y i
+        (classtype_goes F (r.rtype, r.rclass)) last in
+      let all = in_turn F (put_bytes r.name) (λ name. put_classtype (r.rtype, r.rclass) >>= (λ classtype. if_present put_bytes r.rdata >>= (λ rdata. put_block_record (record { name = name; classtype = classtype; ttl = r.ttl; rdata = rdata })))) (NameOrRdata r.name ∷ []) (ClassType (r.rtype, r.rclass) ∷ (b ++ Record r ∷ [])) x i
+        (bytes_goes F r.name) middle in
+      reordered F (put_record r) (NameOrRdata r.name ∷ ClassType (r.rtype, r.rclass) ∷ (b ++ Record r ∷ [])) (Record r ∷ NameOrRdata r.name ∷ ClassType (r.rtype, r.rclass) ∷ b) i
+        (record_order r r.rdata) (record_covers r r.rdata) all
+
   pub record_goes : (r : KeptRr) → Goes F (put_record r) (visited_record r) (record_index F r)
   record_goes r t ws l =
       record_in_turn r (record_parts F r (all_left (Covered F) (visited_record r) ws l.covered)) t ws l
-    where
-      record_in_turn : (r : KeptRr) → RecordParts F r → Goes F (put_record r) (visited_record r) (record_index F r)
-      unfolding (put_record, visited_record, indexed_record)
-      record_in_turn r parts =
-          let b : List Visited = where_present visited_bytes r.rdata in
-          let x : ℕ = bytes_index F r.name in
-          let y : ℕ = classtype_index F (r.rtype, r.rclass) in
-          let z : Option ℕ = option_map (bytes_index F) r.rdata in
-          let i : ℕ = record_index F r in
-          let last = in_turn F (if_present put_bytes r.rdata) (λ rdata. put_block_record (record { name = x; classtype = y; ttl = r.ttl; rdata = rdata })) b (Record r ∷ []) z i
-            (optional F put_bytes visited_bytes (bytes_index F) (bytes_goes F) r.rdata) (record_put r parts) in
-          let middle = in_turn F (put_classtype (r.rtype, r.rclass)) (λ classtype. if_present put_bytes r.rdata >>= (λ rdata. put_block_record (record { name = x; classtype = classtype; ttl = r.ttl; rdata = rdata }))) (ClassType (r.rtype, r.rclass) ∷ []) (b ++ Record r ∷ []) y i
-            (classtype_goes F (r.rtype, r.rclass)) last in
-          let all = in_turn F (put_bytes r.name) (λ name. put_classtype (r.rtype, r.rclass) >>= (λ classtype. if_present put_bytes r.rdata >>= (λ rdata. put_block_record (record { name = name; classtype = classtype; ttl = r.ttl; rdata = rdata })))) (NameOrRdata r.name ∷ []) (ClassType (r.rtype, r.rclass) ∷ (b ++ Record r ∷ [])) x i
-            (bytes_goes F r.name) middle in
-          reordered F (put_record r) (NameOrRdata r.name ∷ ClassType (r.rtype, r.rclass) ∷ (b ++ Record r ∷ [])) (Record r ∷ NameOrRdata r.name ∷ ClassType (r.rtype, r.rclass) ∷ b) i
-            (record_order r r.rdata) (record_covers r r.rdata) all
 
   -- questions and their parts are no list of questions
   no_question_lists : (qs : List KeptQuestion) → used as_question_list (flat_map visited_question qs) ≡ []
@@ -198,8 +198,8 @@ module _ (F : KeptTables) (closed : Closed F) where
   last_covered v vs h = all_both (Covered F) vs (v ∷ []) h.1 (h.0, tt)
 
   pub questions_go : (qs : List KeptQuestion) → Goes F (put_questions qs) (visited_questions qs) (question_list_index F qs)
-  unfolding (put_questions, visited_questions)
-  questions_go [] = gives F None
+  unfolding put_questions visited_questions
+  questions_go [] t ws l = gives F None t ws l
   questions_go (q ∷ qs) t ws l =
       let vs : List Visited = flat_map visited_question (q ∷ qs) in
       let parts = questions_parts F (q ∷ qs) (all_left (Covered F) vs ws l.covered.1) in
@@ -228,8 +228,8 @@ module _ (F : KeptTables) (closed : Closed F) where
       grown_append F t vs (RecordList rs ∷ []) ∙ (λ i. record (grown F t vs) { rrlist = placed i })
 
   pub records_go : (rs : List KeptRr) → Goes F (put_records rs) (visited_records rs) (record_list_index F rs)
-  unfolding (put_records, visited_records)
-  records_go [] = gives F None
+  unfolding put_records visited_records
+  records_go [] t ws l = gives F None t ws l
   records_go (r ∷ rs) t ws l =
       let vs : List Visited = flat_map visited_record (r ∷ rs) in
       let parts = records_parts F (r ∷ rs) (all_left (Covered F) vs ws l.covered.1) in
@@ -239,7 +239,7 @@ module _ (F : KeptTables) (closed : Closed F) where
         (record_list_order (r ∷ rs) vs (no_record_lists (r ∷ rs))) (last_covered (RecordList (r ∷ rs)) vs) all t ws l
 
   pub lists_go : (l : KeptLists) → Goes F (put_lists l) (visited_lists l) (indexed_lists F l)
-  unfolding (put_lists, visited_lists, indexed_lists)
+  unfolding put_lists visited_lists indexed_lists
   lists_go l =
       let a : List Visited = visited_questions l.question in
       let b : List Visited = visited_records l.answer in
@@ -258,7 +258,7 @@ module _ (F : KeptTables) (closed : Closed F) where
       regrouped F (put_lists l) (a ++ (b ++ (c ++ d))) (((a ++ b) ++ c) ++ d) (placed w x y z) (sym (simp append_assoc)) all
 
   pub item_goes : (i : KeptItem) → Goes F (put_item i) (visited_item i) (indexed_item F i)
-  unfolding (put_item, visited_item, indexed_item)
+  unfolding put_item visited_item indexed_item
   item_goes i =
       let a : List Visited = where_present visited_address i.client_address in
       let b : List Visited = where_present visited_signature i.signature in
@@ -282,22 +282,22 @@ module _ (F : KeptTables) (closed : Closed F) where
   data_order d None t = refl
   data_order d (Some a) t = refl
 
+  data_in_turn : (d : KeptData) → DataParts F d → Goes F (put_data d) (visited_data d) (data_index F d)
+  unfolding put_data visited_data indexed_data
+  data_in_turn d parts =
+      let a : List Visited = where_present visited_address d.server_address in
+      let x : Option ℕ = option_map (address_index F) d.server_address in
+      let all = in_turn F (if_present put_address d.server_address) (λ server_address. put_block_data (data_at d server_address)) a (MalformedData d ∷ []) x (data_index F d)
+        (optional F put_address visited_address (address_index F) (address_goes F) d.server_address) (data_put d parts) in
+      reordered F (put_data d) (a ++ MalformedData d ∷ []) (MalformedData d ∷ a) (data_index F d)
+        (data_order d d.server_address) (last_covered (MalformedData d) a) all
+
   pub data_goes : (d : KeptData) → Goes F (put_data d) (visited_data d) (data_index F d)
   data_goes d t ws l =
       data_in_turn d (data_parts F d (all_left (Covered F) (visited_data d) ws l.covered)) t ws l
-    where
-      data_in_turn : (d : KeptData) → DataParts F d → Goes F (put_data d) (visited_data d) (data_index F d)
-      unfolding (put_data, visited_data, indexed_data)
-      data_in_turn d parts =
-          let a : List Visited = where_present visited_address d.server_address in
-          let x : Option ℕ = option_map (address_index F) d.server_address in
-          let all = in_turn F (if_present put_address d.server_address) (λ server_address. put_block_data (data_at d server_address)) a (MalformedData d ∷ []) x (data_index F d)
-            (optional F put_address visited_address (address_index F) (address_goes F) d.server_address) (data_put d parts) in
-          reordered F (put_data d) (a ++ MalformedData d ∷ []) (MalformedData d ∷ a) (data_index F d)
-            (data_order d d.server_address) (last_covered (MalformedData d) a) all
 
   pub malformed_goes : (m : KeptMalformed) → Goes F (put_malformed m) (visited_malformed m) (indexed_malformed F m)
-  unfolding (put_malformed, visited_malformed, indexed_malformed)
+  unfolding put_malformed visited_malformed indexed_malformed
   malformed_goes m =
       let a : List Visited = where_present visited_address m.client_address in
       let b : List Visited = where_present visited_data m.message_data in
