@@ -1,0 +1,3 @@
+pub mod Interning
+pub mod Equality
+pub mod Growing

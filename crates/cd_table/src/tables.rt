@@ -1,0 +1,201 @@
+//! The nine tables of a block as they grow (RFC 8618 7.3.2.3).
+
+ghost use Rattle.std.specs.Prelude.{◌≡◌, OnOk, IfOk};
+ghost use Rattle.cd_table.specs.Growing.{if_present, put_address, put_classtype, put_bytes, put_block_signature, put_question_indexes, put_record_indexes, put_block_question, put_block_record, put_block_data, no_tables, block_of};
+
+use crate::slice_table::SliceTable;
+use crate::value_table::ValueTable;
+use cd_block::{
+    Block, BlockData, BlockItem, BlockMalformed, BlockQuestion, BlockRr, BlockSig, KeptBlock,
+};
+use cd_name::{Blob, List, Name};
+use std::alloc::{AllocError, Global};
+
+/// The tables of a block as they grow: each value once, in the order in which they were put.
+#[derive(Drop)]
+pub(crate) struct Tables {
+    pub(crate) ip_address: SliceTable<u8>,
+    pub(crate) classtype: ValueTable<(u16, u16)>,
+    pub(crate) name_rdata: SliceTable<u8>,
+    pub(crate) qr_sig: ValueTable<BlockSig>,
+    pub(crate) qlist: SliceTable<u64>,
+    pub(crate) qrr: ValueTable<BlockQuestion>,
+    pub(crate) rrlist: SliceTable<u64>,
+    pub(crate) rr: ValueTable<BlockRr>,
+    pub(crate) malformed_message_data: ValueTable<BlockData>,
+}
+
+impl Tables {
+    /// Tables that hold nothing.
+    pub(crate) fn new(alloc: Global) -> Tables
+        ensures { result ≡ no_tables }
+    {
+        Tables {
+            ip_address: SliceTable::new(alloc),
+            classtype: ValueTable::new(alloc),
+            name_rdata: SliceTable::new(alloc),
+            qr_sig: ValueTable::new(alloc),
+            qlist: SliceTable::new(alloc),
+            qrr: ValueTable::new(alloc),
+            rrlist: SliceTable::new(alloc),
+            rr: ValueTable::new(alloc),
+            malformed_message_data: ValueTable::new(alloc),
+        }
+    }
+
+    // The index of an address.
+    #[tactic(auto, unfolding(crate::specs::Growing::put_address))]
+    fn put_address_bytes(&mut self, bytes: &[u8]) -> Result<u64, AllocError>
+        ensures tables { OnOk result (self.new ≡ (put_address bytes.now self.old).tables) }
+        ensures index { IfOk result (λ index. index ≡ (put_address bytes.now self.old).value) }
+    {
+        self.ip_address.put(bytes)
+    }
+
+    /// The index of an address, where there is one.
+    pub(crate) fn put_address(&mut self, address: &Option<Blob>) -> Result<Option<u64>, AllocError>
+        ensures tables { OnOk result (self.new ≡ (if_present put_address address.now self.old).tables) }
+        ensures index { IfOk result (λ index. index ≡ (if_present put_address address.now self.old).value) }
+    {
+        match address {
+            Some(address) => Ok(Some(self.put_address_bytes(address.as_slice())?)),
+            None => Ok(None),
+        }
+    }
+
+    /// The index of a type and a class.
+    #[tactic(auto, unfolding(crate::specs::Growing::put_classtype))]
+    pub(crate) fn put_classtype(&mut self, classtype: (u16, u16)) -> Result<u64, AllocError>
+        ensures tables { OnOk result (self.new ≡ (put_classtype classtype self.old).tables) }
+        ensures index { IfOk result (λ index. index ≡ (put_classtype classtype self.old).value) }
+    {
+        self.classtype.put(classtype)
+    }
+
+    /// The index of a type and a class, where there are these.
+    pub(crate) fn put_lead_classtype(
+        &mut self,
+        classtype: Option<(u16, u16)>,
+    ) -> Result<Option<u64>, AllocError>
+        ensures tables { OnOk result (self.new ≡ (if_present put_classtype classtype self.old).tables) }
+        ensures index { IfOk result (λ index. index ≡ (if_present put_classtype classtype self.old).value) }
+    {
+        match classtype {
+            Some(classtype) => Ok(Some(self.put_classtype(classtype)?)),
+            None => Ok(None),
+        }
+    }
+
+    /// The index of a name or of RDATA.
+    #[tactic(auto, unfolding(crate::specs::Growing::put_bytes))]
+    pub(crate) fn put_bytes(&mut self, bytes: &[u8]) -> Result<u64, AllocError>
+        ensures tables { OnOk result (self.new ≡ (put_bytes bytes.now self.old).tables) }
+        ensures index { IfOk result (λ index. index ≡ (put_bytes bytes.now self.old).value) }
+    {
+        self.name_rdata.put(bytes)
+    }
+
+    /// The index of a name, where there is one.
+    pub(crate) fn put_name(&mut self, name: &Option<Name>) -> Result<Option<u64>, AllocError>
+        ensures tables { OnOk result (self.new ≡ (if_present put_bytes name.now self.old).tables) }
+        ensures index { IfOk result (λ index. index ≡ (if_present put_bytes name.now self.old).value) }
+    {
+        match name {
+            Some(name) => Ok(Some(self.put_bytes(name.as_slice())?)),
+            None => Ok(None),
+        }
+    }
+
+    /// The index of RDATA, where there is any.
+    pub(crate) fn put_rdata(&mut self, rdata: &Option<Blob>) -> Result<Option<u64>, AllocError>
+        ensures tables { OnOk result (self.new ≡ (if_present put_bytes rdata.now self.old).tables) }
+        ensures index { IfOk result (λ index. index ≡ (if_present put_bytes rdata.now self.old).value) }
+    {
+        match rdata {
+            Some(rdata) => Ok(Some(self.put_bytes(rdata.as_slice())?)),
+            None => Ok(None),
+        }
+    }
+
+    /// The index of a signature that has the indexes of its parts.
+    #[tactic(auto, unfolding(crate::specs::Growing::put_block_signature))]
+    pub(crate) fn put_block_signature(&mut self, signature: BlockSig) -> Result<u64, AllocError>
+        ensures tables { OnOk result (self.new ≡ (put_block_signature signature self.old).tables) }
+        ensures index { IfOk result (λ index. index ≡ (put_block_signature signature self.old).value) }
+    {
+        self.qr_sig.put(signature)
+    }
+
+    /// The index of a question that has the indexes of its parts.
+    #[tactic(auto, unfolding(crate::specs::Growing::put_block_question))]
+    pub(crate) fn put_block_question(&mut self, question: BlockQuestion) -> Result<u64, AllocError>
+        ensures tables { OnOk result (self.new ≡ (put_block_question question self.old).tables) }
+        ensures index { IfOk result (λ index. index ≡ (put_block_question question self.old).value) }
+    {
+        self.qrr.put(question)
+    }
+
+    /// The index of a list of questions, which is given by their indexes.
+    #[tactic(auto, unfolding(crate::specs::Growing::put_question_indexes))]
+    pub(crate) fn put_question_indexes(&mut self, indexes: Vec<u64>) -> Result<u64, AllocError>
+        ensures tables { OnOk result (self.new ≡ (put_question_indexes indexes.items self.old).tables) }
+        ensures index { IfOk result (λ index. index ≡ (put_question_indexes indexes.items self.old).value) }
+    {
+        self.qlist.insert(indexes)
+    }
+
+    /// The index of a resource record that has the indexes of its parts.
+    #[tactic(auto, unfolding(crate::specs::Growing::put_block_record))]
+    pub(crate) fn put_block_record(&mut self, placed: BlockRr) -> Result<u64, AllocError>
+        ensures tables { OnOk result (self.new ≡ (put_block_record placed self.old).tables) }
+        ensures index { IfOk result (λ index. index ≡ (put_block_record placed self.old).value) }
+    {
+        self.rr.put(placed)
+    }
+
+    /// The index of a list of resource records, which is given by their indexes.
+    #[tactic(auto, unfolding(crate::specs::Growing::put_record_indexes))]
+    pub(crate) fn put_record_indexes(&mut self, indexes: Vec<u64>) -> Result<u64, AllocError>
+        ensures tables { OnOk result (self.new ≡ (put_record_indexes indexes.items self.old).tables) }
+        ensures index { IfOk result (λ index. index ≡ (put_record_indexes indexes.items self.old).value) }
+    {
+        self.rrlist.insert(indexes)
+    }
+
+    /// The index of the data of a malformed message that has the index of its part.
+    #[tactic(auto, unfolding(crate::specs::Growing::put_block_data))]
+    pub(crate) fn put_block_data(&mut self, placed: BlockData) -> Result<u64, AllocError>
+        ensures tables { OnOk result (self.new ≡ (put_block_data placed self.old).tables) }
+        ensures index { IfOk result (λ index. index ≡ (put_block_data placed self.old).value) }
+    {
+        self.malformed_message_data.put(placed)
+    }
+
+    /// The block that has these tables, these items and these malformed messages, and all else from a kept block.
+    pub(crate) fn into_block(
+        self,
+        alloc: Global,
+        kept: &KeptBlock,
+        items: Vec<BlockItem>,
+        malformed: Vec<BlockMalformed>,
+    ) -> Result<Block, AllocError>
+        ensures { IfOk result (λ b. b ≡ block_of kept.now items.items malformed.items self) }
+    {
+        Ok(Block {
+            earliest: kept.earliest,
+            params: kept.params,
+            stats: kept.stats,
+            items: List::from_vec(items),
+            malformed: List::from_vec(malformed),
+            ip_address: self.ip_address.into_blobs(alloc)?,
+            classtype: self.classtype.into_list(alloc)?,
+            name_rdata: self.name_rdata.into_blobs(alloc)?,
+            qr_sig: self.qr_sig.into_list(alloc)?,
+            qlist: self.qlist.into_lists(alloc)?,
+            qrr: self.qrr.into_list(alloc)?,
+            rrlist: self.rrlist.into_lists(alloc)?,
+            rr: self.rr.into_list(alloc)?,
+            malformed_message_data: self.malformed_message_data.into_list(alloc)?,
+        })
+    }
+}
