@@ -71,4 +71,4 @@ place_cell (Used value) = None
 place_cell (Vacant next) = Some next
 
 abbrev pub place_cells : {T : Type 0} → List (Place T) → List (Option (Option ℕ))
-place_cells {T} places = map (place_cell {T}) places
+place_cells {T} places = map (λ (p : Place T). place_cell p) places

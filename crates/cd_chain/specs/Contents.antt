@@ -75,7 +75,7 @@ value_of (Vacant next) = None
 
 -- the values of slots
 abbrev pub values_of : {T : Type 0} → List (Place T) → List (Option T)
-values_of {T} places = map (value_of {T}) places
+values_of {T} places = map (λ (p : Place T). value_of p) places
 
 -- the lists of one lane, of its rows and of all slots
 abbrev pub lists_seen : {T : Type 0} → List (Slot T) → Lanes → ℕ → List (Option (List ℕ))

@@ -78,7 +78,8 @@ pub(crate) fn lead_back<T>(
 
 // The value of a used slot.
 pub(crate) fn value_in<T>(slots: &[Slot<T>], slot: usize) -> &T
-    requires { IsSome (slice_index_or (values_of (places_of slots.now)) slot None) }
+    requires slot { slot < length slots.now }
+    requires used { IsSome (slice_index_or (values_of (places_of slots.now)) slot None) }
     ensures { slice_index_or (values_of (places_of slots.now)) slot None ≡ Some result.now }
 {
     match &slots[slot].place {
@@ -89,7 +90,8 @@ pub(crate) fn value_in<T>(slots: &[Slot<T>], slot: usize) -> &T
 
 // Puts a value into a free slot, and gives the next free one.
 pub(crate) fn fill<T>(slots: &mut [Slot<T>], slot: usize, value: T) -> Option<u32>
-    requires { IsSome (cell_at (place_cells (places_of slots.old)) slot) }
+    requires slot { slot < length slots.old }
+    requires free { IsSome (cell_at (place_cells (places_of slots.old)) slot) }
     ensures next { cell_at (place_cells (places_of slots.old)) slot ≡ Some result }
     ensures links { link_in slots.new ≡ link_in slots.old }
     ensures places { places_of slots.new ≡ slice_set (places_of slots.old) slot (Used value) }
@@ -102,7 +104,8 @@ pub(crate) fn fill<T>(slots: &mut [Slot<T>], slot: usize, value: T) -> Option<u3
 
 // Takes the value out of a used slot, which is free then and leads on to this one.
 pub(crate) fn empty<T>(slots: &mut [Slot<T>], slot: usize, next: Option<u32>) -> T
-    requires { IsSome (slice_index_or (values_of (places_of slots.old)) slot None) }
+    requires slot { slot < length slots.old }
+    requires used { IsSome (slice_index_or (values_of (places_of slots.old)) slot None) }
     ensures value { slice_index_or (values_of (places_of slots.old)) slot None ≡ Some result }
     ensures links { link_in slots.new ≡ link_in slots.old }
     ensures places { places_of slots.new ≡ slice_set (places_of slots.old) slot (Vacant next) }

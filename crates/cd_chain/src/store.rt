@@ -106,7 +106,7 @@ impl<T> Store<T> {
             IfSome (slice_index_or lists l None) (λ k. IsSome (list_at self.old l k)) }
         ensures values { PutsValue self.old self.new result value }
         ensures lists { ChangesLists self.old self.new
-            (λ l k. put_last_in (slice_index_or lists.entry l None) result k) }
+            (λ l k. put_last_in (slice_index_or lists l None) result k) }
         ensures spare { self.new.spare + 1 ≡ self.old.spare }
     {
         let slot = self.free.unwrap();
