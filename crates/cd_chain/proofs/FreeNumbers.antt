@@ -112,10 +112,6 @@ gave cells s head many l lt e R =
     let m : length (s ∷ free_from cells head) ≡ many + 1 = omega arith in
     subst (Frees (set cells s (Some head)) (Some s)) m (frees_are (set cells s (Some head)) (Some s) (s ∷ free_from cells head) (gave_here cells s head (free_from cells head) lt e R))
 
-none_at : (j : ℕ) → get_or (None {A = Option ℕ} ∷ []) j None ≡ None
-none_at zero = refl
-none_at (suc j) = refl
-
 past_one : (cells : List (Option (Option ℕ))) (c : Option (Option ℕ)) (t : ℕ) → (t ≡ length cells → ⊥) → cell_at (cells ++ c ∷ []) t ≡ cell_at cells t
 past_one cells c t ne = elim (cases_lt t (length cells)) [
   | inl lt ↦ get_or_append_left cells (c ∷ []) None t lt

@@ -44,34 +44,37 @@ list_is {T} slots lanes spare l k =
     ap (λ (xs : List (Option (List ℕ))). get_or xs k None) (lists_are slots lanes spare l)
     ∙ get_or-map (list_of (link_in slots l) (length slots)) (rows_in lanes l) k (Free None)
 
-same_weight : (at : ℕ → Link) (n : ℕ) (r : Row) → cond (is_some (list_of at n r)) 1 0 ≡ cond (not (is_some (row_cell r))) 1 0
+abbrev one_if : Bool → ℕ
+one_if b = cond b 1 0
+
+same_weight : (at : ℕ → Link) (n : ℕ) (r : Row) → one_if (is_some (list_of at n r)) ≡ one_if (not (is_some (row_cell r)))
 same_weight at n (There e) = refl
 same_weight at n (Free next) = refl
 
 rows_used : (at : ℕ → Link) (n : ℕ) (rows : List Row) → count_by (λ (o : Option (List ℕ)). is_some o) (map (list_of at n) rows) ≡ used_cells (row_cells rows)
 rows_used at n [] = refl
 rows_used at n (r ∷ rs) =
-    sum_by-cons (λ (o : Option (List ℕ)). cond (is_some o) 1 0) (list_of at n r) (map (list_of at n) rs)
+    sum_by-cons (λ (o : Option (List ℕ)). one_if (is_some o)) (list_of at n r) (map (list_of at n) rs)
     ∙ ap (λ (w : ℕ). w + count_by (λ (o : Option (List ℕ)). is_some o) (map (list_of at n) rs)) (same_weight at n r)
-    ∙ ap (λ (m : ℕ). cond (not (is_some (row_cell r))) 1 0 + m) (rows_used at n rs)
-    ∙ sym (sum_by-cons (λ (c : Option (Option ℕ)). cond (not (is_some c)) 1 0) (row_cell r) (row_cells rs))
+    ∙ ap (λ (m : ℕ). one_if (not (is_some (row_cell r))) + m) (rows_used at n rs)
+    ∙ sym (sum_by-cons (λ (c : Option (Option ℕ)). one_if (not (is_some c))) (row_cell r) (row_cells rs))
 
 pub list_count_is : {T : Type 0} (slots : List (Slot T)) (lanes : Lanes) (spare l : ℕ) → list_count (seen_of slots lanes spare) l ≡ used_cells (row_cells (rows_in lanes l))
 list_count_is {T} slots lanes spare l =
     ap (λ (xs : List (Option (List ℕ))). count_by (λ (o : Option (List ℕ)). is_some o) xs) (lists_are slots lanes spare l)
     ∙ rows_used (link_in slots l) (length slots) (rows_in lanes l)
 
-value_weight : {T : Type 0} (p : Place T) → cond (is_some (value_of p)) 1 0 ≡ cond (not (is_some (place_cell p))) 1 0
+value_weight : {T : Type 0} (p : Place T) → one_if (is_some (value_of p)) ≡ one_if (not (is_some (place_cell p)))
 value_weight (Used value) = refl
 value_weight (Vacant next) = refl
 
 pub places_used : {T : Type 0} (places : List (Place T)) → count_by (λ (o : Option T). is_some o) (values_of places) ≡ used_cells (place_cells places)
 places_used {T} [] = refl
 places_used {T} (p ∷ ps) =
-    sum_by-cons (λ (o : Option T). cond (is_some o) 1 0) (value_of p) (values_of ps)
+    sum_by-cons (λ (o : Option T). one_if (is_some o)) (value_of p) (values_of ps)
     ∙ ap (λ (w : ℕ). w + count_by (λ (o : Option T). is_some o) (values_of ps)) (value_weight p)
-    ∙ ap (λ (m : ℕ). cond (not (is_some (place_cell p))) 1 0 + m) (places_used ps)
-    ∙ sym (sum_by-cons (λ (c : Option (Option ℕ)). cond (not (is_some c)) 1 0) (place_cell p) (place_cells ps))
+    ∙ ap (λ (m : ℕ). one_if (not (is_some (place_cell p))) + m) (places_used ps)
+    ∙ sym (sum_by-cons (λ (c : Option (Option ℕ)). one_if (not (is_some c))) (place_cell p) (place_cells ps))
 
 -- what is seen of the lists, where some change
 pub changes_by : {T : Type 0} (slots slots2 : List (Slot T)) (lanes lanes2 : Lanes) (spare spare2 s : ℕ) (it : Contents T) (change : ℕ → ℕ → Option (List ℕ) → Option (List ℕ)) → seen_of slots lanes spare ≡ it → length slots2 ≡ length slots →

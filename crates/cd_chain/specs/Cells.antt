@@ -1,7 +1,6 @@
 -- Free numbers, each of which leads on to the next one.
-use Rattle.std.specs.Prelude.{◌≡◌, ℕ, zero, suc, Bool, false, List, [], ◌∷◌, length, map, Option, Some, None, is_some, slice_index_or, not, count_by}
+use Rattle.std.specs.Prelude.{◌≡◌, ℕ, zero, suc, Bool, false, List, [], ◌∷◌, length, map, Option, Some, None, is_some, slice_index_or, not, count_by, eqb}
 use Rattle.std.specs.List.{list_any}
-use Rattle.std.specs.Prelude.{eqb}
 use Rattle.cd_chain.specs.declared.lane.Row.{Row}
 use Rattle.cd_chain.specs.declared.lane.Row.TheVariants.{There, Free}
 use Rattle.cd_chain.specs.declared.slot.Place.{Place}
@@ -36,6 +35,7 @@ lead_of (Some next) = next
 abbrev pub cell_at : List (Option (Option ℕ)) → ℕ → Option (Option ℕ)
 cell_at cells s = slice_index_or cells s None
 
+-- the free number that a number leads on to
 abbrev pub next_in : List (Option (Option ℕ)) → ℕ → Option ℕ
 next_in cells s = lead_of (cell_at cells s)
 
@@ -62,6 +62,7 @@ abbrev pub row_cell : Row → Option (Option ℕ)
 row_cell (There ends) = None
 row_cell (Free next) = Some next
 
+-- the cells of the numbers of a lane
 abbrev pub row_cells : List Row → List (Option (Option ℕ))
 row_cells rows = map row_cell rows
 
@@ -70,5 +71,6 @@ abbrev pub place_cell : {T : Type 0} → Place T → Option (Option ℕ)
 place_cell (Used value) = None
 place_cell (Vacant next) = Some next
 
+-- the cells of slots
 abbrev pub place_cells : {T : Type 0} → List (Place T) → List (Option (Option ℕ))
 place_cells {T} places = map (λ (p : Place T). place_cell p) places

@@ -16,4 +16,8 @@ returns-in-Some-clause-ok c = subst (λ (h : Option ℕ). AddsRow (rows_in c.arg
     (ap (λ (rows : List Row). row_at rows c.in-Some.list) (sym c.rows_in.ensures) ∙ c.next_free-next.ensures) (c.set_free.ensures.rows c.args.lane ∙ c.set_row.ensures.rows))
 
 pub overflow_cast-list-in-None : goal.overflow_cast-list-in-None
-overflow_cast-list-in-None c = ?
+overflow_cast-list-in-None c =
+    let all : used_cells (row_cells (rows_in c.args.lanes.now c.args.lane)) ≡ length (rows_in c.args.lanes.now c.args.lane) =
+        all_there (rows_in c.args.lanes.now c.args.lane) (free_in c.args.lanes.now c.args.lane) (sym c.in-None.ensures) c.requires.frees in
+    let few : length c.rows_in-in-None.result.now < 2 ^ 31 = rw c.rows_in-in-None.ensures (subst (λ (n : ℕ). n < 2 ^ 31) all c.requires.room) in
+    omega arith
