@@ -1,0 +1,13 @@
+pub mod FreeNumbers
+pub mod Keeping
+pub mod Linking
+pub mod Making
+pub mod Places
+pub mod Putting
+pub mod Relinking
+pub mod Rows
+pub mod Seeing
+pub mod Steps
+pub mod Stores
+pub mod Unlinking
+pub mod Writes
