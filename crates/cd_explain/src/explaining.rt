@@ -11,7 +11,8 @@ use crate::inputs::{bytes_of_hex, words_of_line};
 use crate::messages::explain_message;
 use crate::names::{explain_checksum, explain_name, explain_numbers, explain_prefix};
 use crate::packets::{Layers, Packets, put_walked};
-use crate::runs::put_runs;
+use crate::files::{put_end, put_head};
+use crate::runs::{Shown, put_runs};
 use crate::settings::explain_words;
 use cd_hints::Settings;
 use cd_name::Blob;
@@ -40,6 +41,21 @@ fn settings_of(alloc: Global, options: &[Blob]) -> Result<Settings, Ended>
     }
 }
 
+// The file of events with their partners, in pieces.
+fn put_file(
+    alloc: Global,
+    text: &mut String,
+    settings: &Settings,
+    events: Events,
+    partners: &[Option<usize>],
+) -> Result<(), AllocError>
+    requires { IsValid settings.now }
+{
+    put_head(alloc, text, &settings.params)?;
+    put_runs(alloc, text, settings, Shown::Spelled, events, partners)?;
+    put_end(alloc, text)
+}
+
 // A capture, by valid settings.
 fn put_capture(
     alloc: Global,
@@ -63,7 +79,10 @@ fn put_capture(
             let partners = events.partners(settings)?;
             match asked {
                 Asked::Pairs => put_pairs(text, events.as_slice(), partners.as_slice())?,
-                Asked::Records => put_runs(alloc, text, settings, events, partners.as_slice())?,
+                Asked::Records => {
+                    put_runs(alloc, text, settings, Shown::Kept, events, partners.as_slice())?
+                }
+                Asked::File => put_file(alloc, text, settings, events, partners.as_slice())?,
                 _ => put_events(text, events.as_slice())?,
             }
             walked

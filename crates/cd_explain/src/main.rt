@@ -8,6 +8,8 @@
 //! - `events`: the events of DNS traffic in a capture.
 //! - `pairs`: each event with its partner.
 //! - `records`: the records of a capture and the blocks that are kept of them (RFC 8618 7.3.2).
+//! - `file`: the head, the blocks and the end of the file of a capture, as they are written, and what the tables of each block
+//!   resolve to.
 //! - `words`: the words after it as a command line, or without such words each line of the input as one.
 //! - `name N..`: the names at offsets of a message; `numbers N..`: the numbers at offsets.
 //! - `prefix N..`: so many bits of an address.
@@ -29,6 +31,7 @@ mod asked;
 mod captures;
 mod events;
 mod explaining;
+mod files;
 mod inputs;
 mod kept;
 mod messages;
@@ -50,7 +53,7 @@ use std::io::ErrorKind;
 use std::process::ExitCode;
 
 const USAGE: &[u8] = b"usage: cd_explain LAYER [--hex] [--chunk N] [--ipv6 PREFIX] [WORDS]
-layers: message, packets, layers, events, pairs, records, words, name, prefix, checksum, numbers
+layers: message, packets, layers, events, pairs, records, file, words, name, prefix, checksum, numbers
 WORDS: options of compact for a capture; numbers for name, prefix, checksum, numbers; a type of answers for message.
 ";
 

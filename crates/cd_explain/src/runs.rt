@@ -9,6 +9,7 @@ ghost use Rattle.cd_record.specs.Laws.{IsLight, events_of};
 ghost use Rattle.cd_record.specs.Runs.{limits_of};
 
 use crate::events::Events;
+use crate::files::put_spelled;
 use crate::kept::put_block;
 use crate::records::record_at;
 use cd_hints::{Rec, Settings, dropped};
@@ -50,11 +51,21 @@ fn word_of(rec: &Rec) -> &'static str {
     }
 }
 
+/// How the blocks of a capture are shown.
+#[derive(Clone, Copy, Debug, PartialEq, Eq)]
+pub enum Shown {
+    /// Each record, what is dropped of it and what waits with it, and each block with its values where they belong.
+    Kept,
+    /// Each block as it is spelled.
+    Spelled,
+}
+
 // What is kept of a run.
 fn put_run(
     alloc: Global,
     text: &mut String,
     settings: &Settings,
+    shown: Shown,
     run: &BlockRecords,
 ) -> Result<(), AllocError>
     requires valid { IsValid settings.now }
@@ -62,15 +73,30 @@ fn put_run(
     requires counted { IsCounted settings.now.params.ticks (run_parts run.now) }
 {
     let block = kept_block(alloc, settings, run)?;
-    put_block(text, &block)
+    match shown {
+        Shown::Kept => put_block(text, &block),
+        Shown::Spelled => put_spelled(alloc, text, &block),
+    }
 }
 
-/// The records of events with their partners, what is dropped of each, what waits with it for the end of a block, and
-/// each block where it ends.
+// A record, and how many resource records are dropped of it.
+fn put_record(text: &mut String, settings: &Settings, rec: &Rec) -> Result<(), AllocError> {
+    let dropped = dropped(settings, rec);
+    write!(text, "record {} dropped {dropped}", word_of(rec))
+}
+
+// What waits for the end of a block.
+fn put_pending(text: &mut String, cutter: &Cutter) -> Result<(), AllocError> {
+    write!(text, " pending {}", cutter.pending())?;
+    writeln!(text, " pending-weight {}", cutter.pending_weight())
+}
+
+/// The blocks of events with their partners, each where it ends.
 pub fn put_runs(
     alloc: Global,
     text: &mut String,
     settings: &Settings,
+    shown: Shown,
     events: Events,
     partners: &[Option<usize>],
 ) -> Result<(), AllocError>
@@ -84,23 +110,21 @@ pub fn put_runs(
             continue;
         }
         if let Some(rec) = record_at(&mut slots, index, *partner) {
-            write!(
-                text,
-                "record {} dropped {}",
-                word_of(&rec),
-                dropped(settings, &rec)
-            )?;
+            if shown == Shown::Kept {
+                put_record(text, settings, &rec)?;
+            }
             let given = push(settings, &mut cutter, rec)?;
-            write!(text, " pending {}", cutter.pending())?;
-            writeln!(text, " pending-weight {}", cutter.pending_weight())?;
+            if shown == Shown::Kept {
+                put_pending(text, &cutter)?;
+            }
             if let Some(run) = given {
-                put_run(alloc, text, settings, &run)?;
+                put_run(alloc, text, settings, shown, &run)?;
             }
         }
     }
     let last = cutter.finish();
     match last {
-        Some(run) => put_run(alloc, text, settings, &run),
+        Some(run) => put_run(alloc, text, settings, shown, &run),
         None => Ok(()),
     }
 }
