@@ -5,3 +5,5 @@ pub mod Traversal
 pub mod Equality
 pub mod Tables
 pub mod Resolving
+pub mod Giving
+pub mod Naming

@@ -35,6 +35,7 @@ mod kept;
 pub mod keys;
 pub mod laws;
 mod params;
+mod resolving;
 mod stamp;
 mod stats;
 
@@ -46,5 +47,6 @@ pub use kept::{
     KeptBlock, KeptData, KeptItem, KeptLists, KeptMalformed, KeptQuestion, KeptRr, KeptSig,
 };
 pub use params::Params;
+pub use resolving::{ResolveFault, resolve};
 pub use stamp::Stamp;
 pub use stats::Stats;
