@@ -1,1 +1,6 @@
 mod EachInTurn
+pub mod KeptEquality
+pub mod Among
+pub mod IndexingTables
+pub mod IndexingLists
+pub mod Indexing

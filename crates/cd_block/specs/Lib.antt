@@ -6,3 +6,4 @@ pub mod Equality
 pub mod Tables
 pub mod Resolving
 pub mod Giving
+pub mod Naming

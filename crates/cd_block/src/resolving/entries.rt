@@ -1,6 +1,6 @@
 //! The entries of the tables.
 
-ghost use Rattle.std.specs.Prelude.{◌≡◌, ◌<◌, [], Ok, IfOk};
+ghost use Rattle.std.specs.Prelude.{◌≡◌, ◌<◌, [], Ok};
 ghost use Rattle.cd_block.specs.Giving.{Gives};
 ghost use Rattle.cd_block.specs.Resolving;
 ghost use Rattle.cd_block.specs.Resolving.{if_present, resolved_address, resolved_bytes, resolved_classtype, resolved_name};
@@ -20,14 +20,6 @@ pub(super) fn entry<T>(key: u64, table: &[T], index: u64) -> Result<&T, ResolveF
         Some(entry) => Ok(entry),
         None => Err(ResolveFault::Index(key as u8)),
     }
-}
-
-// A copy of some bytes. An `Err` is for want of memory.
-pub(super) fn copied(alloc: Global, bytes: &Blob) -> Result<Blob, AllocError>
-    ensures { IfOk result (λ copy. copy ≡ bytes.now) }
-{
-    let bytes = Vec::from_slice(alloc, bytes.as_slice())?;
-    Ok(Blob::from_vec(bytes))
 }
 
 // An empty list with room for so many items.
@@ -52,7 +44,7 @@ pub(super) fn address(
         None => Ok(None),
         Some(index) => {
             let bytes = entry(keys::TABLES_IP_ADDRESS, block.ip_address.as_slice(), index)?;
-            let copy = copied(alloc, bytes)?;
+            let copy = Blob::from_slice(alloc, bytes.as_slice())?;
             Ok(Some(copy))
         }
     }
@@ -70,7 +62,7 @@ pub(super) fn bytes(
         None => Ok(None),
         Some(index) => {
             let bytes = entry(keys::TABLES_NAME_RDATA, block.name_rdata.as_slice(), index)?;
-            let copy = copied(alloc, bytes)?;
+            let copy = Blob::from_slice(alloc, bytes.as_slice())?;
             Ok(Some(copy))
         }
     }

@@ -4,7 +4,7 @@ ghost use Rattle.std.specs.Prelude.{◌≡◌, Ok};
 ghost use Rattle.cd_block.specs.Giving.{Gives};
 ghost use Rattle.cd_block.specs.Resolving.{if_present, resolved_data, resolved_malformed};
 
-use super::entries::{address, copied, entry};
+use super::entries::{address, entry};
 use super::fault::ResolveFault;
 use crate::block::{Block, BlockMalformed};
 use crate::kept::{KeptData, KeptMalformed};
@@ -19,7 +19,7 @@ fn payload(alloc: Global, payload: &Option<Blob>) -> Result<Option<Blob>, Resolv
     match payload {
         None => Ok(None),
         Some(bytes) => {
-            let copy = copied(alloc, bytes)?;
+            let copy = Blob::from_slice(alloc, bytes.as_slice())?;
             Ok(Some(copy))
         }
     }
