@@ -61,6 +61,7 @@ nothing_left view w trim done (Some h) e r =
     absurd (true≢false (sym (ap (λ (b : Bool). b || (is_neither (view h.event).side || is_some h.partner || not (is_open view w 0 h))) done) ∙ r))
 
 pub due_is_popped : {E : Type 0} (view : E → EventView) → DueIsPopped view
-due_is_popped {E} view w pushed popped p S trim idle P =
-    ( λ going. released_is_popped view w pushed popped p S trim idle going P
-    , λ done. (finished_tells_all view w pushed popped p S P).1 (nothing_left view w trim done (held_at w 0) refl idle) )
+due_is_popped {E} view w pushed popped p S trim idle P = (
+  λ going. released_is_popped view w pushed popped p S trim idle going P,
+  λ done. (finished_tells_all view w pushed popped p S P).1 (nothing_left view w trim done (held_at w 0) refl idle),
+)

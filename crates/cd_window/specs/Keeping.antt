@@ -1,5 +1,5 @@
 -- What a window keeps of what it holds, whatever its history.
-use Rattle.std.specs.Prelude.{◌≡◌, ℕ, ◌+◌, ◌<◌, ◌≤◌, ◌^◌, ◌≢◌, List, [], ◌∷◌, Option, Some, None, slice_index_or}
+use Rattle.std.specs.Prelude.{◌≡◌, ℕ, ◌+◌, ◌<◌, ◌≤◌, ◌^◌, ◌≢◌, [], ◌∷◌, Some, None, slice_index_or}
 use Rattle.cd_pairing.specs.Events.{EventView}
 use Rattle.cd_window.specs.declared.held.Held.{Held}
 use Rattle.cd_window.specs.Seen.{Places, Seen, count_of, held_at, held_count, held_weight}

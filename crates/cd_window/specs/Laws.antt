@@ -29,7 +29,7 @@ abbrev pub DueIsPopped : {E : Type 0} → (E → EventView) → Type 0
 DueIsPopped {E} view = (w : Seen E) (pushed : List E) (popped : List (Released E)) (p : List (Option ℕ)) →
     StandsFor view w pushed popped → IsTrimmed w → is_ready view w ≡ false → IsPairing w.windows (map view pushed) p →
     (w.finished ≡ false → AreRecords view pushed (released_records w.windows (map view pushed) p) popped)
-        × (w.finished ≡ true → AreRecords view pushed (records p) popped)
+    × (w.finished ≡ true → AreRecords view pushed (records p) popped)
 
 -- what a window stands for after a push
 abbrev pub PushesStand : {E : Type 0} → (E → EventView) → Type 0

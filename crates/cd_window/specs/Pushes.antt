@@ -1,5 +1,5 @@
 -- What a push does to a window. It speaks of what is held alone, and not of the events before.
-use Rattle.std.specs.Prelude.{◌≡◌, ℕ, ◌+◌, ◌<◌, Bool, true, false, max, List, [], ◌∷◌, ◌++◌, length, Option, Some, None}
+use Rattle.std.specs.Prelude.{◌≡◌, ℕ, ◌+◌, ◌<◌, Bool, true, false, max, [], ◌∷◌, ◌++◌, length, Option, Some, None}
 use Rattle.std.specs.Prelude.{slice_set, ◌⊎◌}
 use Rattle.cd_pairing.specs.Events.{EventView}
 use Rattle.cd_pairing.specs.Pairing.{may_pair}

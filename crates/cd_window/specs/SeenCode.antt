@@ -24,7 +24,7 @@ abbrev pub seen_code : {E : Type 0} → Coded E → Coded (Seen E)
 seen_code {E} code =
     code_by ((Windows × Bool) × ((ℕ × ℕ) × (ℕ × List (Option (Held E)))))
     (coded× (coded× windows_code coded_bool)
-      (coded× (coded× coded_ℕ coded_ℕ) (coded× coded_ℕ (coded_list (coded_option (held_code code))))))
+    (coded× (coded× coded_ℕ coded_ℕ) (coded× coded_ℕ (coded_list (coded_option (held_code code))))))
     (λ w. ((w.windows, w.finished), ((w.first, w.clock), (w.weight_sum, w.held))))
     (λ p. record {
       windows = p.0.0;
