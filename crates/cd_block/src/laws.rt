@@ -1,12 +1,6 @@
-<<<<<<< HEAD
 //! Laws of the format's numbers: the keys of RFC 8618 7.3, the bits of its hints and its flags, each as it stands
-//! there. Of collection parameters the first two keys have constants, the others have none. A law is the contract of a
-//! function that does nothing.
-=======
-//! Laws of the format's numbers: the keys of RFC 8618 7.3, the bits of its hints and its flags, each as it stands there. Of
-//! collection parameters the first two keys have constants, the others have none. And the law that a block with its tables
-//! holds what the kept block does. A law is the contract of a function that does nothing.
->>>>>>> 9ddf0d27c4464a509090e6e83a93ad9200c2cbcd
+//! there. Of collection parameters the first two keys have constants, the others have none. And the law that a block
+//! with its tables holds what the kept block does. A law is the contract of a function that does nothing.
 
 ghost use Rattle.std.specs.Prelude.{◌≡◌, [], ◌∷◌, Ok};
 ghost use Rattle.cd_block.specs.KeyTables.{preamble_keys, block_parameter_keys, storage_keys, hint_keys, collection_keys, block_keys, block_preamble_keys, statistics_keys, tables_keys, classtype_keys, signature_keys, question_keys, rr_keys, malformed_data_keys, item_keys, extended_keys, malformed_keys};
