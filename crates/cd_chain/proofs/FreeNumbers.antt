@@ -1,14 +1,14 @@
 -- What is left of the free numbers when one is taken, given back or made.
-use Rattle.std.proofs.Common.{◌≡◌, ℕ, zero, suc, ◌<◌, ◌≤◌, ◌+◌, ◌-◌, Bool, true, false, not, eqb, List, [], ◌∷◌, ◌++◌, length, set, get_or, cond, Option, Some, None, refl, ap, sym, ◌∙◌, subst, arith, inl, inr}
-use Rattle.std.specs.Prelude.{is_some, IsSome, count_by}
+use Rattle.std.proofs.Common.{◌≡◌, ℕ, zero, suc, ◌<◌, ◌≤◌, ◌+◌, Bool, true, false, not, List, [], ◌∷◌, ◌++◌, length, set, get_or, cond, Option, Some, None, refl, ap, sym, ◌∙◌, subst, arith, inl, inr}
+use Rattle.std.specs.Prelude.{is_some, IsSome}
 use Rattle.std.specs.List.{sum_by}
-use Rattle.std.proofs.lemmas.Bool.{cases_Bool, eqb-true, eq-eqb, ne_eqb, both_ways, cases_eq, cases_lt, or_parts}
+use Rattle.std.proofs.lemmas.Bool.{ne_eqb, both_ways, cases_eq, cases_lt}
 use Rattle.std.proofs.lemmas.Option.{none-some}
-use Rattle.std.proofs.lemmas.List.{get_or-set_same, get_or-set_other, get_or_past, get_or_append_left, length-append, length-set}
-use Rattle.std.proofs.Math.Seq.{get_or-append_seam, get_or-append_right}
+use Rattle.std.proofs.lemmas.List.{get_or-set_same, get_or-set_other, get_or_past, get_or_append_left, length-append}
+use Rattle.std.proofs.Math.Seq.{get_or-append_seam}
 use Rattle.std.proofs.lemmas.List.Sums.{sum_by-set, sum_by-cons, sum_by_push}
 use Rattle.std.proofs.lemmas.Map.Steps.{length-le_from_distinct_below}
-use Rattle.cd_chain.specs.Cells.{is_in, AreDistinct, walk, IsRun, lead_of, cell_at, next_in, free_from, IsFreeRun, AreFree, used_cells}
+use Rattle.cd_chain.specs.Cells.{is_in, walk, IsRun, lead_of, cell_at, next_in, free_from, IsFreeRun, AreFree, used_cells}
 use Rattle.cd_chain.proofs.Linking.{head_in, tail_in, distinct}
 
 run_same : (next next' : ℕ → Option ℕ) (o : Option ℕ) (ss : List ℕ) → ((t : ℕ) → is_in t ss ≡ true → next' t ≡ next t) → IsRun next o ss → IsRun next' o ss
@@ -95,9 +95,12 @@ gave_here : (cells : List (Option (Option ℕ))) (s : ℕ) (head : Option ℕ) (
 gave_here cells s head frees lt e R =
     let out : is_in s frees ≡ false = R.all s ∙ ap (λ (c : Option (Option ℕ)). is_some c) e in
     record {
-      run = (refl, subst (λ (x : Option ℕ). IsRun (next_in (set cells s (Some head))) x frees) (sym (ap lead_of (get_or-set_same cells s (Some head) None lt)))
-          (run_same (next_in cells) (next_in (set cells s (Some head))) head frees
-          (λ t i. ap lead_of (get_or-set_other cells s t (Some head) None (λ q. both_ways _ out (subst (λ (x : ℕ). is_in x frees ≡ true) q i)))) R.run));
+      run = (
+        refl,
+        subst (λ (x : Option ℕ). IsRun (next_in (set cells s (Some head))) x frees) (sym (ap lead_of (get_or-set_same cells s (Some head) None lt)))
+            (run_same (next_in cells) (next_in (set cells s (Some head))) head frees
+            (λ t i. ap lead_of (get_or-set_other cells s t (Some head) None (λ q. both_ways _ out (subst (λ (x : ℕ). is_in x frees ≡ true) q i)))) R.run),
+      );
       distinct = (out, R.distinct);
       all = λ t. elim (cases_eq t s) [
         | inl q ↦ subst (λ (x : ℕ). is_in x (s ∷ frees) ≡ is_some (cell_at (set cells s (Some head)) x)) (sym q)
@@ -123,9 +126,12 @@ made_here cells head frees R =
     let n : ℕ = length cells in
     let out : is_in (length cells) frees ≡ false = R.all (length cells) ∙ ap (λ (c : Option (Option ℕ)). is_some c) (get_or_past cells (length cells) None (omega arith)) in
     record {
-      run = (refl, subst (λ (x : Option ℕ). IsRun (next_in (cells ++ Some head ∷ [])) x frees) (sym (ap lead_of (get_or-append_seam cells (Some head) [] None)))
-          (run_same (next_in cells) (next_in (cells ++ Some head ∷ [])) head frees
-          (λ t i. ap lead_of (past_one cells (Some head) t (λ q. both_ways _ out (subst (λ (x : ℕ). is_in x frees ≡ true) q i)))) R.run));
+      run = (
+        refl,
+        subst (λ (x : Option ℕ). IsRun (next_in (cells ++ Some head ∷ [])) x frees) (sym (ap lead_of (get_or-append_seam cells (Some head) [] None)))
+            (run_same (next_in cells) (next_in (cells ++ Some head ∷ [])) head frees
+            (λ t i. ap lead_of (past_one cells (Some head) t (λ q. both_ways _ out (subst (λ (x : ℕ). is_in x frees ≡ true) q i)))) R.run),
+      );
       distinct = (out, R.distinct);
       all = λ t. elim (cases_eq t (length cells)) [
         | inl q ↦ subst (λ (x : ℕ). is_in x (length cells ∷ frees) ≡ is_some (cell_at (cells ++ Some head ∷ []) x)) (sym q)

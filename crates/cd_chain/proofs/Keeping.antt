@@ -1,22 +1,21 @@
 -- What calls keep of the slots.
-use Rattle.std.proofs.Common.{◌≡◌, ℕ, zero, suc, ◌<◌, ◌≤◌, ◌+◌, ◌^◌, Bool, true, false, eqb, List, [], ◌∷◌, length, set, get_or, map, cond, Option, Some, None, refl, ap, sym, ◌∙◌, subst, arith, inl, inr}
-use Rattle.std.specs.Prelude.{is_some, IsSome, IfSome}
-use Rattle.std.proofs.lemmas.Bool.{cases_lt, cases_eq, cases_Bool, eq-eqb, ne_eqb, both_ways}
+use Rattle.std.proofs.Common.{◌≡◌, ℕ, zero, suc, ◌<◌, ◌+◌, ◌^◌, eqb, List, [], ◌∷◌, length, set, get_or, cond, Option, Some, None, refl, ap, sym, ◌∙◌, subst, arith, inl, inr}
+use Rattle.std.specs.Prelude.{IsSome}
+use Rattle.std.proofs.lemmas.Bool.{cases_lt, cases_eq, eq-eqb, ne_eqb, both_ways}
 use Rattle.std.proofs.lemmas.Option.{none-some}
 use Rattle.std.proofs.lemmas.List.{get_or-set_same, get_or-set_other, get_or_past, map-set, length-map, length-set}
 use Rattle.cd_chain.specs.declared.link.Link.{Link}
 use Rattle.cd_chain.specs.declared.slot.Slot.{Slot}
 use Rattle.cd_chain.specs.declared.slot.Place.{Place}
 use Rattle.cd_chain.specs.declared.slot.Place.TheVariants.{Used, Vacant}
-use Rattle.cd_chain.specs.declared.lane.Row.{Row}
 use Rattle.cd_chain.specs.declared.lane.Lanes.{Lanes}
-use Rattle.cd_chain.specs.Lanes.{rows_in, free_in, row_at, no_links, lane_link}
+use Rattle.cd_chain.specs.Lanes.{rows_in, free_in}
 use Rattle.cd_chain.specs.Cells.{cell_at, free_from, AreFree, used_cells, place_cell, place_cells, row_cells}
 use Rattle.cd_chain.specs.Links.{link_in, places_of}
 use Rattle.cd_chain.specs.Lists.{AreLists, Relinks}
 use Rattle.cd_chain.specs.Contents.{Contents, value_of, values_of, value_at, used_slots, seen_of}
-use Rattle.cd_chain.specs.Holds.{SlotsHold, Holds, MakesSpare}
-use Rattle.cd_chain.specs.Calls.{PutsValue, TakesValue, KeepsValues}
+use Rattle.cd_chain.specs.Holds.{SlotsHold, Holds}
+use Rattle.cd_chain.specs.Calls.{PutsValue, TakesValue}
 use Rattle.cd_chain.proofs.FreeNumbers.{Frees, took, gave, used_took, used_gave, head_there, head_free}
 use Rattle.cd_chain.proofs.Seeing.{places_used}
 

@@ -1,5 +1,5 @@
 -- How a chain changes when one of its slots goes, or one more comes last.
-use Rattle.std.proofs.Common.{◌≡◌, ℕ, zero, suc, ◌<◌, ◌≤◌, Bool, true, false, eqb, List, [], ◌∷◌, ◌++◌, length, Option, Some, None, refl, ap, sym, ◌∙◌, subst, arith, ◌⊎◌, inl, inr}
+use Rattle.std.proofs.Common.{◌≡◌, ℕ, zero, suc, ◌<◌, ◌≤◌, true, false, eqb, List, [], ◌∷◌, ◌++◌, length, Option, Some, None, refl, ap, sym, ◌∙◌, subst, arith, ◌⊎◌, inl, inr}
 use Rattle.std.proofs.lemmas.Bool.{cases_Bool, eqb-true, eq-eqb, or_parts, both_ways, true≢false, or_cases, or_left, false_from_ne_true}
 use Rattle.std.proofs.lemmas.Map.Steps.{length-le_from_distinct_below}
 use Rattle.std.specs.List.{IsDistinct, AllByRecursion}
@@ -42,13 +42,14 @@ pub rest : (at at' : ℕ → Link) (n k s : ℕ) (b : Option ℕ) (slots : List 
 rest at at' n k s b [] f l b' f' l' out P eb ef el c = (ef ∙ ap (past (at s).after s) c.0, el ∙ ap (past (at s).before s) c.1 ∙ sym eb)
 rest at at' n k s b (t ∷ ss) f l b' f' l' out P eb ef el c =
     let q = or_parts _ _ out in
-    let h : is_in t (t ∷ ss) ≡ true = head_in t ss in
-    ( ef ∙ ap (past (at s).after s) c.0 ∙ past_other (at s).after s t q.0
-    , c.1
-    , P.list t h q.0 ∙ c.2
-    , P.before t h q.0 ∙ ap (past (at s).before s) c.3 ∙ sym eb
-    , rest at at' n k s (Some t) ss (at t).after l (Some t) (at' t).after l' q.1 (tail_past at at' s t ss P)
-        (sym (past_other (at s).before s t q.0)) (P.after t h q.0) el c.4 )
+    let h : is_in t (t ∷ ss) ≡ true = head_in t ss in (
+      ef ∙ ap (past (at s).after s) c.0 ∙ past_other (at s).after s t q.0,
+      c.1,
+      P.list t h q.0 ∙ c.2,
+      P.before t h q.0 ∙ ap (past (at s).before s) c.3 ∙ sym eb,
+      rest at at' n k s (Some t) ss (at t).after l (Some t) (at' t).after l' q.1 (tail_past at at' s t ss P)
+          (sym (past_other (at s).before s t q.0)) (P.after t h q.0) el c.4,
+    )
 
 -- what begins a chain that s is not in is not s
 first_other : (at : ℕ → Link) (n k s : ℕ) (b : Option ℕ) (slots : List ℕ) (f l next : Option ℕ) → is_in s slots ≡ false → IsChain at n k b slots f l → past next s f ≡ f
@@ -72,17 +73,18 @@ pub gone : (at at' : ℕ → Link) (n k s : ℕ) (b : Option ℕ) (slots : List 
 gone at at' n k s b [] f l b' f' l' d P far eb ef el c = (ef ∙ ap (past (at s).after s) c.0, el ∙ ap (past (at s).before s) c.1 ∙ far ∙ sym eb)
 gone at at' n k s b (t ∷ ss) f l b' f' l' d P far eb ef el c = elim (cases_Bool (eqb s t)) [
   | inl e ↦
-    let same : t ≡ s = sym (eqb-true s t e) in
-    let out : is_in s ss ≡ false = subst (λ (x : ℕ). is_in x ss ≡ false) same d.0 in
-    rw e (subst (λ (xs : List ℕ). IsChain at' n k b' xs f' l') (sym (without_none s ss out))
-    (gone_here at at' n k s b ss f l b' f' l' out (tail_past at at' s t ss P) eb ef el (subst (λ (x : ℕ). IsChain at n k b (x ∷ ss) f l) same c)))
-  | inr e ↦ let h : is_in t (t ∷ ss) ≡ true = head_in t ss in rw e
-    ( ef ∙ ap (past (at s).after s) c.0 ∙ past_other (at s).after s t e
-    , c.1
-    , P.list t h e ∙ c.2
-    , P.before t h e ∙ ap (past (at s).before s) c.3 ∙ far ∙ sym eb
-    , gone at at' n k s (Some t) ss (at t).after l (Some t) (at' t).after l' d.1 (tail_past at at' s t ss P)
-        (past_other (at s).before s t e) refl (P.after t h e) el c.4 )
+      let same : t ≡ s = sym (eqb-true s t e) in
+      let out : is_in s ss ≡ false = subst (λ (x : ℕ). is_in x ss ≡ false) same d.0 in
+      rw e (subst (λ (xs : List ℕ). IsChain at' n k b' xs f' l') (sym (without_none s ss out))
+      (gone_here at at' n k s b ss f l b' f' l' out (tail_past at at' s t ss P) eb ef el (subst (λ (x : ℕ). IsChain at n k b (x ∷ ss) f l) same c)))
+  | inr e ↦ let h : is_in t (t ∷ ss) ≡ true = head_in t ss in rw e (
+    ef ∙ ap (past (at s).after s) c.0 ∙ past_other (at s).after s t e,
+    c.1,
+    P.list t h e ∙ c.2,
+    P.before t h e ∙ ap (past (at s).before s) c.3 ∙ far ∙ sym eb,
+    gone at at' n k s (Some t) ss (at t).after l (Some t) (at' t).after l' d.1 (tail_past at at' s t ss P)
+        (past_other (at s).before s t e) refl (P.after t h e) el c.4,
+  )
 ]
 
 -- each of these slots is linked as before, but that s comes after the last
@@ -102,24 +104,26 @@ pub appended : (at at' : ℕ → Link) (n k s : ℕ) (b : Option ℕ) (slots : L
     (at' s).list ≡ Some k → (at' s).before ≡ l → (at' s).after ≡ None → f' ≡ or_else s f → IsChain at n k b slots f l → IsChain at' n k b (slots ++ s ∷ []) f' (Some s)
 appended at at' n k s b [] f l f' lt P el eb ea ef c = (ef ∙ ap (or_else s) c.0, lt, el, eb ∙ c.1, (ea, refl))
 appended at at' n k s b (t ∷ ss) f l f' lt P el eb ea ef c =
-    let h : is_in t (t ∷ ss) ≡ true = head_in t ss in
-    ( ef ∙ ap (or_else s) c.0
-    , c.1
-    , P.list t h ∙ c.2
-    , P.before t h ∙ c.3
-    , appended at at' n k s (Some t) ss (at t).after l (at' t).after lt (tail_on at at' s t ss P) el eb ea (P.after t h) c.4 )
+    let h : is_in t (t ∷ ss) ≡ true = head_in t ss in (
+      ef ∙ ap (or_else s) c.0,
+      c.1,
+      P.list t h ∙ c.2,
+      P.before t h ∙ c.3,
+      appended at at' n k s (Some t) ss (at t).after l (at' t).after lt (tail_on at at' s t ss P) el eb ea (P.after t h) c.4,
+    )
 
 -- nothing that the chain reads has changed
 pub stays : (at at' : ℕ → Link) (n n' k : ℕ) (b : Option ℕ) (slots : List ℕ) (f f' l : Option ℕ) → n ≤ n' → ((t : ℕ) → is_in t slots ≡ true → at' t ≡ at t) → f' ≡ f →
     IsChain at n k b slots f l → IsChain at' n' k b slots f' l
 stays at at' n n' k b [] f f' l le h ef c = (ef ∙ c.0, c.1)
 stays at at' n n' k b (t ∷ ss) f f' l le h ef c =
-    let e : at' t ≡ at t = h t (head_in t ss) in
-    ( ef ∙ c.0
-    , let lt : t < n = c.1 in omega arith
-    , ap (λ (x : Link). x.list) e ∙ c.2
-    , ap (λ (x : Link). x.before) e ∙ c.3
-    , stays at at' n n' k (Some t) ss (at t).after (at' t).after l le (λ u i. h u (tail_in u t ss i)) (ap (λ (x : Link). x.after) e) c.4 )
+    let e : at' t ≡ at t = h t (head_in t ss) in (
+      ef ∙ c.0,
+      let lt : t < n = c.1 in omega arith,
+      ap (λ (x : Link). x.list) e ∙ c.2,
+      ap (λ (x : Link). x.before) e ∙ c.3,
+      stays at at' n n' k (Some t) ss (at t).after (at' t).after l le (λ u i. h u (tail_in u t ss i)) (ap (λ (x : Link). x.after) e) c.4,
+    )
 
 pub walked : (at : ℕ → Link) (n k : ℕ) (b : Option ℕ) (slots : List ℕ) (f l : Option ℕ) (fuel : ℕ) → length slots ≤ fuel → IsChain at n k b slots f l → walked_on at fuel f ≡ slots
 walked at n k b [] f l zero le c = refl
@@ -148,10 +152,10 @@ led at n k b (v ∷ []) f l t u h a c = elim (cases_Bool (eqb t v)) [
 ]
 led at n k b (v ∷ w ∷ ss) f l t u h a c = elim (cases_Bool (eqb t v)) [
   | inl e ↦
-    let same : t ≡ v = eqb-true t v e in
-    let next : Some w ≡ Some u = sym c.4.0 ∙ ap (λ (x : ℕ). (at x).after) (sym same) ∙ a in
-    let w_u : w ≡ u = cc in
-    subst (λ (x : ℕ). (at x).before ≡ Some t) w_u (c.4.3 ∙ ap (λ (x : ℕ). Some x) (sym same))
+      let same : t ≡ v = eqb-true t v e in
+      let next : Some w ≡ Some u = sym c.4.0 ∙ ap (λ (x : ℕ). (at x).after) (sym same) ∙ a in
+      let w_u : w ≡ u = cc in
+      subst (λ (x : ℕ). (at x).before ≡ Some t) w_u (c.4.3 ∙ ap (λ (x : ℕ). Some x) (sym same))
   | inr e ↦ led at n k (Some v) (w ∷ ss) (at v).after l t u (rw e at h) a c.4
 ]
 
@@ -163,9 +167,9 @@ led_in at n k b (v ∷ []) f l t u h a c = elim (cases_Bool (eqb t v)) [
 ]
 led_in at n k b (v ∷ w ∷ ss) f l t u h a c = elim (cases_Bool (eqb t v)) [
   | inl e ↦
-    let next : Some w ≡ Some u = sym c.4.0 ∙ ap (λ (x : ℕ). (at x).after) (sym (eqb-true t v e)) ∙ a in
-    let w_u : w ≡ u = cc in
-    subst (λ (x : ℕ). is_in x (v ∷ w ∷ ss) ≡ true) w_u (tail_in w v (w ∷ ss) (head_in w ss))
+      let next : Some w ≡ Some u = sym c.4.0 ∙ ap (λ (x : ℕ). (at x).after) (sym (eqb-true t v e)) ∙ a in
+      let w_u : w ≡ u = cc in
+      subst (λ (x : ℕ). is_in x (v ∷ w ∷ ss) ≡ true) w_u (tail_in w v (w ∷ ss) (head_in w ss))
   | inr e ↦ tail_in u v (w ∷ ss) (led_in at n k (Some v) (w ∷ ss) (at v).after l t u (rw e at h) a c.4)
 ]
 
@@ -178,7 +182,7 @@ followed at n k b (v ∷ ss) f l t u h a c = elim (cases_Bool (eqb u v)) [
   | inr e ↦ elim (followed at n k (Some v) ss (at v).after l t u (rw e at h) a c.4) [
     | inl p ↦ let q : Some v ≡ Some t = p.0 in let same : v ≡ t = cc in inr (subst (λ (x : ℕ). (at x).after ≡ Some u) same p.1, subst (λ (x : ℕ). is_in x (v ∷ ss) ≡ true) same (head_in v ss))
     | inr p ↦ inr (p.0, tail_in t v ss p.1)
-    ]
+  ]
 ]
 
 not_led : (at : ℕ → Link) (n k v : ℕ) (slots : List ℕ) (f l : Option ℕ) (u : ℕ) → is_in u slots ≡ true → (at u).before ≡ None → IsChain at n k (Some v) slots f l → ⊥
@@ -230,11 +234,11 @@ last_ends at n k b (v ∷ []) f l u d h e c = elim (cases_Bool (eqb u v)) [
 ]
 last_ends at n k b (v ∷ w ∷ ss) f l u d h e c = elim (cases_Bool (eqb u v)) [
   | inl q ↦
-    let same : u ≡ v = eqb-true u v q in
-    absurd (both_ways _ d.0 (elim (last_in at n k (Some w) ss (at w).after l v (e ∙ ap (λ (x : ℕ). Some x) same) c.4.4) [
-      | inl p ↦ let w_v : w ≡ v = cc in subst (λ (x : ℕ). is_in x (w ∷ ss) ≡ true) w_v (head_in w ss)
-      | inr p ↦ tail_in v w ss p
-    ]))
+      let same : u ≡ v = eqb-true u v q in
+      absurd (both_ways _ d.0 (elim (last_in at n k (Some w) ss (at w).after l v (e ∙ ap (λ (x : ℕ). Some x) same) c.4.4) [
+        | inl p ↦ let w_v : w ≡ v = cc in subst (λ (x : ℕ). is_in x (w ∷ ss) ≡ true) w_v (head_in w ss)
+        | inr p ↦ tail_in v w ss p
+      ]))
   | inr q ↦ last_ends at n k (Some v) (w ∷ ss) (at v).after l u d.1 (rw q at h) e c.4
 ]
 
@@ -259,7 +263,7 @@ in_without s t (u ∷ ss) h = elim (cases_Bool (eqb s u)) [
   | inr e ↦ elim (or_cases (eqb t u) (is_in t (without s ss)) (rw e at h)) [
     | inl q ↦ or_left (eqb t u) (is_in t ss) q
     | inr q ↦ tail_in t u ss (in_without s t ss q)
-    ]
+  ]
 ]
 
 pub still_in : (s t : ℕ) (slots : List ℕ) → eqb s t ≡ false → is_in t slots ≡ true → is_in t (without s slots) ≡ true
@@ -268,11 +272,11 @@ still_in s t (u ∷ ss) ne h = elim (cases_Bool (eqb s u)) [
   | inl e ↦ rw e (elim (or_cases (eqb t u) (is_in t ss) h) [
     | inl q ↦ absurd (both_ways _ ne (eq-eqb s t (eqb-true s u e ∙ sym (eqb-true t u q))))
     | inr q ↦ still_in s t ss ne q
-    ])
+  ])
   | inr e ↦ rw e (elim (or_cases (eqb t u) (is_in t ss) h) [
     | inl q ↦ or_left (eqb t u) (is_in t (without s ss)) q
     | inr q ↦ tail_in t u (without s ss) (still_in s t ss ne q)
-    ])
+  ])
 ]
 
 pub distinct_without : (s : ℕ) (slots : List ℕ) → AreDistinct slots → AreDistinct (without s slots)
@@ -292,15 +296,16 @@ in_push s t (u ∷ ss) h = elim (or_cases (eqb t u) (is_in t (ss ++ s ∷ [])) h
   | inr q ↦ elim (in_push s t ss q) [
     | inl p ↦ inl (tail_in t u ss p)
     | inr p ↦ inr p
-    ]
+  ]
 ]
 
 pub distinct_push : (s : ℕ) (slots : List ℕ) → AreDistinct slots → is_in s slots ≡ false → AreDistinct (slots ++ s ∷ [])
 distinct_push s [] d out = (refl, tt)
 distinct_push s (t ∷ ss) d out =
-    let q = or_parts (eqb s t) (is_in s ss) out in
-    ( false_from_ne_true _ (λ h. elim (in_push s t ss h) [
+    let q = or_parts (eqb s t) (is_in s ss) out in (
+      false_from_ne_true _ (λ h. elim (in_push s t ss h) [
         | inl p ↦ both_ways _ d.0 p
         | inr p ↦ both_ways _ q.0 (eq-eqb s t (sym p))
-        ])
-    , distinct_push s ss d.1 q.1 )
+      ]),
+      distinct_push s ss d.1 q.1,
+    )

@@ -1,6 +1,5 @@
 -- What is kept when slots are made.
-use Rattle.std.proofs.Common.{◌≡◌, ℕ, zero, suc, ◌<◌, ◌≤◌, ◌+◌, Bool, true, false, eqb, List, [], ◌∷◌, ◌++◌, length, get_or, map, cond, not, Option, Some, None, refl, ap, sym, ◌∙◌, subst, arith, inl, inr}
-use Rattle.std.specs.Prelude.{is_some, IsSome}
+use Rattle.std.proofs.Common.{◌≡◌, ℕ, ◌+◌, List, [], ◌∷◌, ◌++◌, length, get_or, map, Option, Some, None, refl, ap, sym, ◌∙◌, subst, arith, inl, inr}
 use Rattle.std.proofs.lemmas.Bool.{cases_lt, cases_eq}
 use Rattle.std.proofs.lemmas.List.{get_or_past, get_or_append_left, map-append, length-append, length-map}
 use Rattle.std.proofs.Math.Seq.{get_or-append_seam}
@@ -8,10 +7,10 @@ use std.Path.{fun_ext}
 use Rattle.cd_chain.specs.declared.link.Links.{Links}
 use Rattle.cd_chain.specs.declared.slot.Slot.{Slot}
 use Rattle.cd_chain.specs.declared.slot.Place.{Place}
-use Rattle.cd_chain.specs.declared.slot.Place.TheVariants.{Used, Vacant}
+use Rattle.cd_chain.specs.declared.slot.Place.TheVariants.{Vacant}
 use Rattle.cd_chain.specs.Lanes.{no_links, lane_link}
 use Rattle.cd_chain.specs.Cells.{cell_at, free_from, AreFree, used_cells, place_cell, place_cells}
-use Rattle.cd_chain.specs.Links.{link_in, places_of}
+use Rattle.cd_chain.specs.Links.{places_of}
 use Rattle.cd_chain.specs.Contents.{value_of, values_of}
 use Rattle.cd_chain.specs.Holds.{MakesSpare}
 use Rattle.cd_chain.proofs.FreeNumbers.{Frees, made, used_push}
@@ -23,7 +22,7 @@ padded xs d t = elim (cases_lt t (length xs)) [
   | inr le ↦ elim (cases_eq t (length xs)) [
     | inl q ↦ ap (λ (i : ℕ). get_or (xs ++ d ∷ []) i d) q ∙ get_or-append_seam xs d [] d ∙ sym (get_or_past xs t d le)
     | inr ne ↦ get_or_past (xs ++ d ∷ []) t d (omega (arith, length-append xs (d ∷ []))) ∙ sym (get_or_past xs t d le)
-    ]
+  ]
 ]
 
 padded_by : {X : Type 0} (xs : List X) (x d : X) (t : ℕ) → x ≡ d → get_or (xs ++ x ∷ []) t d ≡ get_or xs t d
@@ -36,17 +35,17 @@ makes_here : {T : Type 0} (slots : List (Slot T)) (free : Option ℕ) (x : Slot 
 makes_here {T} slots free x ep el R =
     let places : places_of (slots ++ x ∷ []) ≡ places_of slots ++ x.place ∷ [] = map-append (λ (y : Slot T). y.place) slots (x ∷ []) in
     let cells : place_cells (places_of (slots ++ x ∷ [])) ≡ place_cells (places_of slots) ++ Some free ∷ [] =
-        ap (λ (ps : List (Place T)). place_cells ps) places ∙ map-append (λ (p : Place T). place_cell p) (places_of slots) (x.place ∷ [])
-        ∙ ap (λ (p : Place T). place_cells (places_of slots) ++ place_cell p ∷ []) ep in
+    ap (λ (ps : List (Place T)). place_cells ps) places ∙ map-append (λ (p : Place T). place_cell p) (places_of slots) (x.place ∷ [])
+    ∙ ap (λ (p : Place T). place_cells (places_of slots) ++ place_cell p ∷ []) ep in
     let values : values_of (places_of (slots ++ x ∷ [])) ≡ values_of (places_of slots) ++ None ∷ [] =
-        ap (λ (ps : List (Place T)). values_of ps) places ∙ map-append (λ (p : Place T). value_of p) (places_of slots) (x.place ∷ [])
-        ∙ ap (λ (p : Place T). values_of (places_of slots) ++ value_of p ∷ []) ep in
+    ap (λ (ps : List (Place T)). values_of ps) places ∙ map-append (λ (p : Place T). value_of p) (places_of slots) (x.place ∷ [])
+    ∙ ap (λ (p : Place T). values_of (places_of slots) ++ value_of p ∷ []) ep in
     let links : map (λ (y : Slot T). y.links) (slots ++ x ∷ []) ≡ map (λ (y : Slot T). y.links) slots ++ x.links ∷ [] = map-append (λ (y : Slot T). y.links) slots (x ∷ []) in
     let F : Frees (place_cells (places_of slots) ++ Some free ∷ []) (Some (length (place_cells (places_of slots)))) (length (free_from (place_cells (places_of slots)) free) + 1) =
-        made (place_cells (places_of slots)) free (length (free_from (place_cells (places_of slots)) free)) refl R in
+    made (place_cells (places_of slots)) free (length (free_from (place_cells (places_of slots)) free)) refl R in
     let G : Frees (place_cells (places_of (slots ++ x ∷ []))) (Some (length slots)) (length (free_from (place_cells (places_of slots)) free) + 1) =
-        subst (λ (n : ℕ). Frees (place_cells (places_of (slots ++ x ∷ []))) (Some n) (length (free_from (place_cells (places_of slots)) free) + 1)) (cells_long slots)
-        (subst (λ (cs : List (Option (Option ℕ))). Frees cs (Some (length (place_cells (places_of slots)))) (length (free_from (place_cells (places_of slots)) free) + 1)) (sym cells) F) in
+    subst (λ (n : ℕ). Frees (place_cells (places_of (slots ++ x ∷ []))) (Some n) (length (free_from (place_cells (places_of slots)) free) + 1)) (cells_long slots)
+    (subst (λ (cs : List (Option (Option ℕ))). Frees cs (Some (length (place_cells (places_of slots)))) (length (free_from (place_cells (places_of slots)) free) + 1)) (sym cells) F) in
     record {
       long = length-append slots (x ∷ []);
       links = fun_ext (λ l. fun_ext (λ t. ap (λ (ls : List Links). lane_link (get_or ls t no_links) l) links ∙ ap (λ (y : Links). lane_link y l) (padded_by (map (λ (y : Slot T). y.links) slots) x.links no_links t el)));

@@ -1,7 +1,7 @@
 -- What is kept when a slot comes last in a list.
-use Rattle.std.proofs.Common.{◌≡◌, ℕ, ◌<◌, ◌≤◌, Bool, true, false, eqb, List, [], ◌∷◌, ◌++◌, length, set, get_or, Option, Some, None, refl, ap, sym, ◌∙◌, subst, arith, ◌⊎◌, inl, inr}
+use Rattle.std.proofs.Common.{◌≡◌, ℕ, ◌<◌, true, false, eqb, List, [], ◌∷◌, ◌++◌, length, set, Option, Some, None, refl, ap, sym, ◌∙◌, subst, arith, inl, inr}
 use Rattle.std.specs.Prelude.{IfSome}
-use Rattle.std.proofs.lemmas.Bool.{cases_Bool, eqb-true, eqb-false, eq-eqb, ne_eqb, both_ways, cases_eq, false_from_ne_true, or_left}
+use Rattle.std.proofs.lemmas.Bool.{cases_Bool, eqb-true, eq-eqb, ne_eqb, both_ways, cases_eq, false_from_ne_true, or_left}
 use Rattle.std.proofs.lemmas.Option.{none-some}
 use Rattle.std.proofs.lemmas.List.{get_or-set_same, get_or-set_other}
 use Rattle.cd_chain.specs.declared.link.Link.{Link}
@@ -88,8 +88,8 @@ other_row at n s k j last hs hl ne (There e) h =
     let slots : List ℕ = walked_on at n e.first in
     let listed : (t : ℕ) → is_in t slots ≡ true → (at t).list ≡ Some j = λ t i. (member at n j None slots e.first e.last t i h.1).list in
     let same : (t : ℕ) → is_in t slots ≡ true → linked_last at s k last t ≡ at t = λ t i. kept_link at s k last t
-        (ne_eqb t s (λ x. none-some j (sym hs ∙ ap (λ (y : ℕ). (at y).list) (sym x) ∙ listed t i)))
-        (λ x. let both : Some j ≡ Some k = sym (listed t i) ∙ hl t x in ne (cc)) in
+    (ne_eqb t s (λ x. none-some j (sym hs ∙ ap (λ (y : ℕ). (at y).list) (sym x) ∙ listed t i)))
+    (λ x. let both : Some j ≡ Some k = sym (listed t i) ∙ hl t x in ne (cc)) in
     let c = stays at (linked_last at s k last) n n j None slots e.first e.first e.last (omega arith) same refl h.1 in
     let w : walked_on (linked_last at s k last) n e.first ≡ slots = walked _ n j None _ _ _ n (short _ n j None _ _ _ h.0 c) c in
     record {
@@ -105,10 +105,10 @@ row_puts at n s k rows e lt ls A hs there j =
     let slots : List ℕ = walked_on at n e.first in
     elim (cases_eq j k) [
       | inl q ↦ subst (λ (x : ℕ). RowPut at (linked_last at s k e.last) n s k x (row_at rows x) (row_at (set rows k r') x)) (sym q)
-        (subst (λ (x : Row). RowPut at (linked_last at s k e.last) n s k k x (row_at (set rows k r') k)) (sym there)
-        (subst (λ (x : Row). RowPut at (linked_last at s k e.last) n s k k (There e) x) (sym (get_or-set_same rows k r' (Free None) lt)) (own_row at n k s e ls hs r)))
+          (subst (λ (x : Row). RowPut at (linked_last at s k e.last) n s k k x (row_at (set rows k r') k)) (sym there)
+          (subst (λ (x : Row). RowPut at (linked_last at s k e.last) n s k k (There e) x) (sym (get_or-set_same rows k r' (Free None) lt)) (own_row at n k s e ls hs r)))
       | inr q ↦ subst (λ (x : Row). RowPut at (linked_last at s k e.last) n s k j (row_at rows j) x) (sym (get_or-set_other rows k j r' (Free None) q))
-        (other_row at n s k j e.last hs
+          (other_row at n s k j e.last hs
           (λ t x. elim (last_in at n k None slots e.first e.last t x r.1) [
             | inl p ↦ absurd (none-some t p)
             | inr p ↦ (member at n k None slots e.first e.last t p r.1).list
@@ -150,12 +150,12 @@ puts at n s k rows e lt ls A hs there =
         members = λ t j h. subst (λ (o : Option (List ℕ)). InList o t) (sym (R j).list) (elim (cases_Bool (eqb t s)) [
           | inr w ↦ in_put k s j t (list_of at n (row_at rows j)) (A.members t j (sym (list_kept at s k e.last t w) ∙ h))
           | inl w ↦
-            let t_s : t ≡ s = eqb-true t s w in
-            let both : Some k ≡ Some j = ap (λ (x : Link). x.list) (sym mine) ∙ ap (λ (y : ℕ). (linked_last at s k e.last y).list) (sym t_s) ∙ h in
-            let k_j : k ≡ j = cc in
-            subst (λ (m : ℕ). InList (put_in k s m (list_of at n (row_at rows m))) t) k_j
-            (subst (λ (x : Row). InList (put_in k s k (list_of at n x)) t) (sym there)
-            (rw (eq-eqb k k refl) (subst (λ (m : ℕ). is_in m (slots ++ s ∷ []) ≡ true) (sym t_s) (last_is_in s slots))))
+              let t_s : t ≡ s = eqb-true t s w in
+              let both : Some k ≡ Some j = ap (λ (x : Link). x.list) (sym mine) ∙ ap (λ (y : ℕ). (linked_last at s k e.last y).list) (sym t_s) ∙ h in
+              let k_j : k ≡ j = cc in
+              subst (λ (m : ℕ). InList (put_in k s m (list_of at n (row_at rows m))) t) k_j
+              (subst (λ (x : Row). InList (put_in k s k (list_of at n x)) t) (sym there)
+              (rw (eq-eqb k k refl) (subst (λ (m : ℕ). is_in m (slots ++ s ∷ []) ≡ true) (sym t_s) (last_is_in s slots))))
         ]);
       };
       changed = λ j. (R j).list;

@@ -1,5 +1,5 @@
 -- How changes of single lanes make a change of all lanes.
-use Rattle.std.proofs.Common.{◌≡◌, ℕ, zero, suc, ◌<◌, Bool, true, false, eqb, List, [], ◌∷◌, length, Option, Some, None, refl, ap, sym, ◌∙◌, subst, arith, inl, inr}
+use Rattle.std.proofs.Common.{◌≡◌, ℕ, false, eqb, List, [], Option, Some, None, refl, ap, sym, ◌∙◌, subst, arith, inl, inr}
 use Rattle.std.proofs.lemmas.Bool.{cases_Bool, eqb-true, eq-eqb, ne_eqb, cases_eq}
 use Rattle.cd_chain.specs.declared.link.Link.{Link}
 use Rattle.cd_chain.specs.declared.lane.Row.{Row}
@@ -7,7 +7,7 @@ use Rattle.cd_chain.specs.declared.lane.Lanes.{Lanes}
 use Rattle.cd_chain.specs.Lanes.{row_at, rows_in}
 use Rattle.cd_chain.specs.declared.slot.Slot.{Slot}
 use Rattle.cd_chain.specs.Links.{link_in}
-use Rattle.cd_chain.specs.Lists.{list_of, AreLists, Relinked, Relinks, in_lane, gone_from, put_in, put_last_in}
+use Rattle.cd_chain.specs.Lists.{list_of, AreLists, Relinked, Relinks, in_lane, gone_from, put_last_in}
 
 -- nothing changes
 pub unchanged : (at : ℕ → Link) (n s : ℕ) (rows : List Row) → AreLists at n rows → Relinked at at n s rows rows (λ j o. o)
@@ -56,8 +56,8 @@ pub three : (at at1 at2 at3 : ℕ → ℕ → Link) (n s : ℕ) (lanes lanes1 la
     Relinks at at3 n s (rows_in lanes) (rows_in lanes3) g
 three at at1 at2 at3 n s lanes lanes1 lanes2 lanes3 g none R0 R1 R2 l =
     let R : (l : ℕ) → Relinked (at l) (at3 l) n s (rows_in lanes l) (rows_in lanes3 l) (λ j o. in_lane 2 (g 2) l j (in_lane 1 (g 1) l j (in_lane 0 (g 0) l j o))) =
-        λ l. chain (at l) (at2 l) (at3 l) n s (rows_in lanes l) (rows_in lanes2 l) (rows_in lanes3 l) (λ j o. in_lane 1 (g 1) l j (in_lane 0 (g 0) l j o)) (in_lane 2 (g 2) l)
-        (chain (at l) (at1 l) (at2 l) n s (rows_in lanes l) (rows_in lanes1 l) (rows_in lanes2 l) (in_lane 0 (g 0) l) (in_lane 1 (g 1) l) (R0 l) (R1 l)) (R2 l) in
+    λ l. chain (at l) (at2 l) (at3 l) n s (rows_in lanes l) (rows_in lanes2 l) (rows_in lanes3 l) (λ j o. in_lane 1 (g 1) l j (in_lane 0 (g 0) l j o)) (in_lane 2 (g 2) l)
+    (chain (at l) (at1 l) (at2 l) n s (rows_in lanes l) (rows_in lanes1 l) (rows_in lanes2 l) (in_lane 0 (g 0) l) (in_lane 1 (g 1) l) (R0 l) (R1 l)) (R2 l) in
     let P : ℕ → Type 0 = λ x. Relinked (at x) (at3 x) n s (rows_in lanes x) (rows_in lanes3 x) (g x) in
     elim (cases_Bool (eqb l 0)) [
       | inl a ↦ subst P (sym (eqb-true l 0 a)) (R 0)
@@ -66,16 +66,16 @@ three at at1 at2 at3 n s lanes lanes1 lanes2 lanes3 g none R0 R1 R2 l =
         | inr b ↦ elim (cases_Bool (eqb l 2)) [
           | inl c ↦ subst P (sym (eqb-true l 2 c)) (R 2)
           | inr c ↦
-            let r : rows_in lanes l ≡ [] = no_rows lanes l a b c in
-            let r3 : rows_in lanes3 l ≡ [] = no_rows lanes3 l a b c in
-            record {
-              lists = (R l).lists;
-              changed = λ j. ap (λ (rs : List Row). list_of (at3 l) n (row_at rs j)) r3 ∙ sym (none l j) ∙ ap (λ (rs : List Row). g l j (list_of (at l) n (row_at rs j))) (sym r);
-              numbers = (R l).numbers;
-              others = (R l).others;
-            }
-          ]
+              let r : rows_in lanes l ≡ [] = no_rows lanes l a b c in
+              let r3 : rows_in lanes3 l ≡ [] = no_rows lanes3 l a b c in
+              record {
+                lists = (R l).lists;
+                changed = λ j. ap (λ (rs : List Row). list_of (at3 l) n (row_at rs j)) r3 ∙ sym (none l j) ∙ ap (λ (rs : List Row). g l j (list_of (at l) n (row_at rs j))) (sym r);
+                numbers = (R l).numbers;
+                others = (R l).others;
+              }
         ]
+      ]
     ]
 
 pub none_gone : (s l j : ℕ) → gone_from s None ≡ None
@@ -98,8 +98,8 @@ outs {T} slots slots1 slots2 slots3 s o0 o1 o2 same2 same3 l =
         | inr b ↦ elim (cases_Bool (eqb l 2)) [
           | inl c ↦ subst P (sym (eqb-true l 2 c)) o2
           | inr c ↦ rw (a, b, c) refl
-          ]
         ]
+      ]
     ]
 
 -- the bound is another way to say it

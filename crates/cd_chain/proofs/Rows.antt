@@ -1,16 +1,15 @@
 -- What is kept when a list of a lane is added or dropped.
-use Rattle.std.proofs.Common.{◌≡◌, ℕ, ◌<◌, ◌≤◌, ◌+◌, Bool, true, false, eqb, List, [], ◌∷◌, ◌++◌, length, set, get_or, map, Option, Some, None, refl, ap, sym, ◌∙◌, subst, arith, inl, inr}
+use Rattle.std.proofs.Common.{◌≡◌, ℕ, ◌<◌, ◌+◌, List, [], ◌∷◌, ◌++◌, length, set, Option, Some, None, refl, ap, sym, ◌∙◌, subst, arith, inl, inr}
 use Rattle.std.specs.Prelude.{is_some}
 use Rattle.std.proofs.lemmas.Bool.{cases_lt, both_ways}
 use Rattle.std.proofs.lemmas.List.{get_or-set_same, get_or-set_other, get_or_past, get_or_append_left, get_or-map, map-set, map-append, length-append, length-map}
 use Rattle.std.proofs.Math.Seq.{get_or-append_seam}
-use Rattle.cd_chain.specs.declared.lane.Ends.{Ends}
 use Rattle.cd_chain.specs.declared.lane.Row.{Row}
 use Rattle.cd_chain.specs.declared.lane.Row.TheVariants.{There, Free}
 use Rattle.cd_chain.specs.Lanes.{row_at}
-use Rattle.cd_chain.specs.Cells.{cell_at, free_from, AreFree, used_cells, row_cell, row_cells}
+use Rattle.cd_chain.specs.Cells.{cell_at, AreFree, used_cells, row_cell, row_cells}
 use Rattle.cd_chain.specs.Lists.{IsThere, no_ends, AddsRow, DropsRow}
-use Rattle.cd_chain.proofs.FreeNumbers.{free_within, head_free, Frees, took_any, gave, made_used, used_took, used_gave, used_push, none_free}
+use Rattle.cd_chain.proofs.FreeNumbers.{free_within, head_free, took_any, gave, made_used, used_took, used_gave, used_push, none_free}
 
 -- the number that is given out next
 pub free_row_within : (rows : List Row) (k : ℕ) → AreFree (row_cells rows) (Some k) → k < length rows

@@ -1,11 +1,8 @@
 -- What contracts see of a store, and what its links say.
-use Rattle.std.proofs.Common.{◌≡◌, ℕ, Bool, true, false, not, eqb, ◌∷◌, ◌<◌, ◌≤◌, ◌+◌, List, [], length, map, get_or, cond, Option, Some, None, refl, ap, sym, ◌∙◌, subst, arith, inl, inr}
-use Rattle.std.proofs.lemmas.Bool.{cases_lt, cases_Bool, both_ways, eqb-true}
-use Rattle.std.specs.Prelude.{slice_get, is_some, IsSome, IfSome, count_by}
-use Rattle.std.specs.List.{sum_by}
+use Rattle.std.proofs.Common.{◌≡◌, ℕ, Bool, true, not, eqb, ◌∷◌, ◌<◌, ◌+◌, List, [], length, map, get_or, cond, Option, Some, None, refl, ap, sym, ◌∙◌, subst, inl, inr}
+use Rattle.std.proofs.lemmas.Bool.{cases_Bool, both_ways, eqb-true}
+use Rattle.std.specs.Prelude.{slice_get, is_some, IsSome, count_by}
 use Rattle.std.proofs.lemmas.List.Sums.{sum_by-cons}
-use Rattle.std.proofs.lemmas.Option.{none-some}
-use Rattle.std.proofs.lemmas.List.{get_or_past, length-map}
 use Rattle.std.proofs.Math.ListN.{get_or-map}
 use Rattle.cd_chain.specs.declared.link.Link.{Link}
 use Rattle.cd_chain.specs.declared.slot.Slot.{Slot}
@@ -16,14 +13,13 @@ use Rattle.cd_chain.specs.declared.lane.Row.{Row}
 use Rattle.cd_chain.specs.declared.lane.Row.TheVariants.{There, Free}
 use Rattle.cd_chain.specs.declared.lane.Lanes.{Lanes}
 use Rattle.cd_chain.specs.Lanes.{rows_in, row_at}
-use Rattle.cd_chain.specs.Cells.{is_in, cell_at, place_cell, place_cells, row_cell, row_cells, used_cells}
+use Rattle.cd_chain.specs.Cells.{is_in, place_cell, place_cells, row_cell, row_cells, used_cells}
 use Rattle.cd_chain.specs.Chains.{walked_on, IsChain}
-use Rattle.cd_chain.specs.Links.{link_in, places_of}
-use Rattle.cd_chain.specs.Lists.{list_of, InList, IsThere, RowHolds, AreLists, Relinked, Relinks}
-use Rattle.cd_chain.specs.Contents.{Contents, value_of, values_of, value_at, used_slots, lists_in, lists_seen, list_at, list_count, seen_of, slots_of, after_in, StandsIn}
+use Rattle.cd_chain.specs.Links.{link_in}
+use Rattle.cd_chain.specs.Lists.{list_of, InList, IsThere, RowHolds, AreLists, Relinks}
+use Rattle.cd_chain.specs.Contents.{Contents, value_of, values_of, lists_in, lists_seen, list_at, list_count, seen_of, slots_of, after_in, StandsIn}
 use Rattle.cd_chain.specs.Calls.{ChangesLists}
 use Rattle.cd_chain.proofs.Linking.{member}
-use Rattle.cd_chain.proofs.Relinking.{no_rows}
 
 lists_are : {T : Type 0} (slots : List (Slot T)) (lanes : Lanes) (spare l : ℕ) → lists_in (seen_of slots lanes spare) l ≡ lists_seen slots lanes l
 lists_are {T} slots lanes spare l =
@@ -35,8 +31,8 @@ lists_are {T} slots lanes spare l =
         | inr b ↦ elim (cases_Bool (eqb l 2)) [
           | inl c ↦ subst P (sym (eqb-true l 2 c)) refl
           | inr c ↦ rw (a, b, c) refl
-          ]
         ]
+      ]
     ]
 
 pub list_is : {T : Type 0} (slots : List (Slot T)) (lanes : Lanes) (spare l k : ℕ) → list_at (seen_of slots lanes spare) l k ≡ list_of (link_in slots l) (length slots) (row_at (rows_in lanes l) k)
@@ -102,7 +98,7 @@ linked_row at n s k (There e) h i =
 pub linked : {T : Type 0} (slots : List (Slot T)) (lanes : Lanes) (spare lane s : ℕ) (it : Contents T) → seen_of slots lanes spare ≡ it → ((l : ℕ) → AreLists (link_in slots l) (length slots) (rows_in lanes l)) → (w : StandsIn it lane s) → IsLinked (link_in slots lane) (length slots) s w.list
 linked {T} slots lanes spare lane s it seen A w =
     linked_row (link_in slots lane) (length slots) s w.list (row_at (rows_in lanes lane) w.list) ((A lane).each w.list)
-      (subst (λ (o : Option (List ℕ)). InList o s) (ap (λ (x : Contents T). list_at x lane w.list) (sym seen) ∙ list_is slots lanes spare lane w.list) w.within)
+    (subst (λ (o : Option (List ℕ)). InList o s) (ap (λ (x : Contents T). list_at x lane w.list) (sym seen) ∙ list_is slots lanes spare lane w.list) w.within)
 
 there_row : (at : ℕ → Link) (n : ℕ) (r : Row) → IsSome (list_of at n r) → IsThere r
 there_row at n (There e) h = tt
@@ -121,7 +117,7 @@ pub first_is : {T : Type 0} (slots : List (Slot T)) (lanes : Lanes) (spare lane 
 first_is {T} slots lanes spare lane k it e seen A there =
     let r : RowHolds (link_in slots lane) (length slots) k (There e) = subst (RowHolds (link_in slots lane) (length slots) k) there (A.each k) in
     chain_first _ _ _ _ _ _ _ r.1 ∙ ap (λ (o : Option (List ℕ)). slice_get (slots_of o) 0)
-      (ap (list_of (link_in slots lane) (length slots)) (sym there) ∙ sym (list_is slots lanes spare lane k) ∙ ap (λ (x : Contents T). list_at x lane k) seen)
+    (ap (list_of (link_in slots lane) (length slots)) (sym there) ∙ sym (list_is slots lanes spare lane k) ∙ ap (λ (x : Contents T). list_at x lane k) seen)
 
 chain_next : (at : ℕ → Link) (n k : ℕ) (b : Option ℕ) (slots : List ℕ) (f l : Option ℕ) (s : ℕ) → is_in s slots ≡ true → IsChain at n k b slots f l → (at s).after ≡ after_in s slots
 chain_next at n k b [] f l s h c = absurd (both_ways _ refl h)

@@ -1,5 +1,5 @@
 -- What the calls that work on slots keep and show, over the slots and lanes before and after.
-use Rattle.std.proofs.Common.{◌≡◌, ℕ, zero, suc, ◌<◌, ◌≤◌, ◌+◌, ◌-◌, ◌^◌, Bool, true, false, eqb, List, [], ◌∷◌, length, set, get_or, map, Option, Some, None, refl, ap, sym, ◌∙◌, subst, arith, inl, inr}
+use Rattle.std.proofs.Common.{◌≡◌, ℕ, ◌<◌, ◌≤◌, ◌+◌, ◌-◌, ◌^◌, eqb, List, length, set, get_or, map, Option, Some, None, refl, ap, sym, ◌∙◌, subst, arith, inl, inr}
 use Rattle.std.specs.Prelude.{IsSome, IfSome}
 use Rattle.std.proofs.lemmas.Bool.{cases_lt, cases_Bool}
 use Rattle.std.proofs.lemmas.Option.{none-some}
@@ -9,12 +9,11 @@ use Rattle.cd_chain.specs.declared.link.Links.{Links}
 use Rattle.cd_chain.specs.declared.slot.Slot.{Slot}
 use Rattle.cd_chain.specs.declared.slot.Place.{Place}
 use Rattle.cd_chain.specs.declared.slot.Place.TheVariants.{Used, Vacant}
-use Rattle.cd_chain.specs.declared.lane.Ends.{Ends}
 use Rattle.cd_chain.specs.declared.lane.Row.{Row}
 use Rattle.cd_chain.specs.declared.lane.Row.TheVariants.{There, Free}
 use Rattle.cd_chain.specs.declared.lane.Lanes.{Lanes}
 use Rattle.cd_chain.specs.Lanes.{no_links, lane_link, rows_in, free_in, row_at}
-use Rattle.cd_chain.specs.Cells.{AreDistinct, cell_at, AreFree, used_cells, place_cells, row_cells}
+use Rattle.cd_chain.specs.Cells.{AreDistinct, cell_at, used_cells, place_cells}
 use Rattle.cd_chain.specs.Chains.{walked_on, IsChain}
 use Rattle.cd_chain.specs.Links.{link_in, places_of}
 use Rattle.cd_chain.specs.Lists.{list_of, InList, IsThere, RowHolds, AreLists, Relinks}
@@ -98,8 +97,8 @@ no_lane_link l = elim (cases_Bool (eqb l 0)) [
     | inr b ↦ elim (cases_Bool (eqb l 2)) [
       | inl c ↦ rw (a, b, c) refl
       | inr c ↦ rw (a, b, c) refl
-      ]
     ]
+  ]
 ]
 
 pub no_link_past : {T : Type 0} (slots : List (Slot T)) (l s : ℕ) → length slots ≤ s → (link_in slots l s).list ≡ None

@@ -1,7 +1,7 @@
 -- What calls on a store keep and show.
-use Rattle.std.proofs.Common.{◌≡◌, ℕ, zero, suc, ◌<◌, ◌≤◌, ◌+◌, ◌-◌, ◌^◌, Bool, true, false, eqb, List, [], ◌∷◌, length, set, get_or, map, cond, Option, Some, None, refl, ap, sym, ◌∙◌, subst, arith, inl, inr}
-use Rattle.std.specs.Prelude.{is_some, IsSome, IfSome, IfOk, OnErr, Result, Ok, Err, ◌&&◌}
-use Rattle.std.proofs.lemmas.Bool.{cases_lt, cases_eq, cases_Bool, eq-eqb, ne_eqb, both_ways, eqb-false}
+use Rattle.std.proofs.Common.{◌≡◌, ℕ, zero, suc, ◌<◌, ◌+◌, ◌^◌, eqb, List, [], ◌∷◌, length, get_or, map, cond, Option, Some, None, refl, ap, sym, ◌∙◌, subst, arith, inl, inr}
+use Rattle.std.specs.Prelude.{IsSome, IfSome, IfOk, OnErr, Result, Ok, Err, ◌&&◌}
+use Rattle.std.proofs.lemmas.Bool.{cases_eq, cases_Bool, eq-eqb, ne_eqb, both_ways}
 use Rattle.std.proofs.lemmas.List.{length-map}
 use Rattle.std.proofs.lemmas.Option.{none-some}
 use Rattle.cd_chain.specs.declared.link.Link.{Link}
@@ -12,17 +12,15 @@ use Rattle.cd_chain.specs.declared.lane.Row.{Row}
 use Rattle.cd_chain.specs.declared.lane.Row.TheVariants.{There, Free}
 use Rattle.cd_chain.specs.declared.lane.Lanes.{Lanes}
 use Rattle.cd_chain.specs.Lanes.{by_lane, rows_in, free_in, row_at}
-use Rattle.cd_chain.specs.Cells.{is_in, AreDistinct, cell_at, AreFree, used_cells, place_cells, row_cells}
+use Rattle.cd_chain.specs.Cells.{AreDistinct, AreFree, used_cells, row_cells}
 use Rattle.cd_chain.specs.Chains.{walked_on, IsChain}
 use Rattle.cd_chain.specs.Links.{link_in, places_of}
 use Rattle.cd_chain.specs.Lists.{list_of, InList, IsThere, RowHolds, AreLists, no_ends, AddsRow, DropsRow}
-use Rattle.cd_chain.specs.Contents.{Contents, values_of, value_at, used_slots, list_at, list_count, seen_of, StandsIn, slots_of}
-use Rattle.cd_chain.specs.Holds.{SlotsHold, Holds, MakesSpare}
-use Rattle.cd_chain.specs.Calls.{AddsList, DropsList, KeepsValues, ChangesLists, KeepsLists}
+use Rattle.cd_chain.specs.Contents.{Contents, values_of, value_at, list_at, list_count, seen_of}
+use Rattle.cd_chain.specs.Holds.{SlotsHold, Holds}
+use Rattle.cd_chain.specs.Calls.{AddsList, DropsList}
 use Rattle.cd_chain.proofs.Linking.{IsMember, member, led_in}
-use Rattle.cd_chain.proofs.Unlinking.{after_within, list_within}
-use Rattle.cd_chain.proofs.Seeing.{list_is, list_count_is, places_used, there_seen, linked}
-use Rattle.cd_chain.proofs.Making.{cells_long}
+use Rattle.cd_chain.proofs.Seeing.{list_is, list_count_is}
 use Rattle.cd_chain.proofs.Keeping.{listed_used}
 use Rattle.cd_chain.proofs.Steps.{no_link_past}
 
@@ -241,8 +239,8 @@ all_by_lane l a b c d v ea eb ec ed = elim (cases_Bool (eqb l 0)) [
     | inr q ↦ elim (cases_Bool (eqb l 2)) [
       | inl r ↦ rw (p, q, r) ec
       | inr r ↦ rw (p, q, r) ed
-      ]
     ]
+  ]
 ]
 
 no_free : AreFree [] None

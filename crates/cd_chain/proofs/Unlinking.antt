@@ -1,6 +1,6 @@
 -- What is kept when a slot is taken out of its list.
-use Rattle.std.proofs.Common.{◌≡◌, ℕ, ◌<◌, ◌≤◌, Bool, true, false, eqb, List, [], ◌∷◌, length, set, get_or, Option, Some, None, refl, ap, sym, ◌∙◌, subst, arith, ◌⊎◌, inl, inr, cond}
-use Rattle.std.proofs.lemmas.Bool.{cases_Bool, eqb-true, eqb-false, eq-eqb, ne_eqb, both_ways, cases_eq, cases_lt, false_from_ne_true}
+use Rattle.std.proofs.Common.{◌≡◌, ℕ, ◌<◌, true, false, eqb, List, length, set, Option, Some, None, refl, ap, sym, ◌∙◌, subst, arith, ◌⊎◌, inl, inr}
+use Rattle.std.proofs.lemmas.Bool.{eqb-false, eq-eqb, ne_eqb, cases_eq, cases_lt, false_from_ne_true}
 use Rattle.std.specs.Prelude.{IfSome}
 use Rattle.std.proofs.Math.Seq.{map-set_same}
 use Rattle.std.proofs.lemmas.Option.{none-some}
@@ -86,7 +86,7 @@ linked_past at n k s slots f l h c =
         | inr e ↦ ap (λ (x : Link). x.before) (backed_miss at1 t a b e) ∙ first_before t ∙ sym (past_unless b s (at t).before (λ q. elim (followed at n k None slots f l s t i q c) [
           | inl p ↦ none-some s p.0
           | inr p ↦ e p.0
-          ]))
+        ]))
       ];
       after = λ t i ne. ap (λ (x : Link). x.after) (with_miss (two at s) s t no_link (flip s t ne)) ∙ elim (some_or_not a t) [
         | inl e ↦ ap (λ (x : Link). x.after) (backed_hit at1 t a b e)
@@ -95,7 +95,7 @@ linked_past at n k s slots f l h c =
         | inl e ↦ ap (λ (x : Link). x.after) (led_hit at t b a e) ∙ sym (elim (followed at n k None slots f l t s h e c) [
           | inl p ↦ absurd (none-some t p.0)
           | inr p ↦ ap (past a s) p.0 ∙ past_same a s
-          ])
+        ])
         | inr e ↦ ap (λ (x : Link). x.after) (led_miss at t b a e) ∙ sym (past_unless a s (at t).after (λ q. e (led at n k None slots f l t s i q c)))
       ];
     }
@@ -126,7 +126,7 @@ own_row at n k s e r h =
     let d : AreDistinct (without s slots) = distinct_without s slots r.0 in
     let c = own_chain at n k s slots e.first e.last r.0 h r.1 in
     let w : walked_on (unlinked at s) n (first_past e.first (at s).before (at s).after) ≡ without s slots =
-        walked _ n k None _ _ _ n (short _ n k None _ _ _ d c) c in
+    walked _ n k None _ _ _ n (short _ n k None _ _ _ d c) c in
     record {
       holds = (subst AreDistinct (sym w) d, subst (λ (xs : List ℕ). IsChain (unlinked at s) n k None xs (first_past e.first (at s).before (at s).after) (first_past e.last (at s).after (at s).before)) (sym w) c);
       list = ap (λ (xs : List ℕ). Some xs) w;
@@ -151,13 +151,13 @@ other_row at n s k j hs nb na ne (Free next) h = record { holds = tt; list = ref
 other_row at n s k j hs nb na ne (There e) h =
     let slots : List ℕ = walked_on at n e.first in
     let unlike : (t : ℕ) → is_in t slots ≡ true → (at t).list ≡ Some k → ⊥ = λ t i w.
-        let both : Some j ≡ Some k = sym (member at n j None slots e.first e.last t i h.1).list ∙ w in ne (cc) in
+    let both : Some j ≡ Some k = sym (member at n j None slots e.first e.last t i h.1).list ∙ w in ne (cc) in
     same_row at (unlinked at s) n s j e h
-      (λ t i. far_slot at s t
-        (ne_eqb t s (λ x. unlike t i (ap (λ (y : ℕ). (at y).list) x ∙ hs)))
-        (λ x. unlike t i (nb t x))
-        (λ x. unlike t i (na t x)))
-      (false_from_ne_true (is_in s slots) (λ i. unlike s i hs))
+    (λ t i. far_slot at s t
+    (ne_eqb t s (λ x. unlike t i (ap (λ (y : ℕ). (at y).list) x ∙ hs)))
+    (λ x. unlike t i (nb t x))
+    (λ x. unlike t i (na t x)))
+    (false_from_ne_true (is_in s slots) (λ i. unlike s i hs))
 
 in_gone : (s t : ℕ) (o : Option (List ℕ)) → eqb s t ≡ false → InList o t → InList (gone_from s o) t
 in_gone s t None h i = i
@@ -182,10 +182,10 @@ row_goes at n s k rows e lt A hs there j =
     let slots : List ℕ = walked_on at n e.first in
     elim (cases_eq j k) [
       | inl q ↦ subst (λ (x : ℕ). RowGoes at (unlinked at s) n s x (row_at rows x) (row_at (set rows k r') x)) (sym q)
-        (subst (λ (x : Row). RowGoes at (unlinked at s) n s k x (row_at (set rows k r') k)) (sym there)
-        (subst (λ (x : Row). RowGoes at (unlinked at s) n s k (There e) x) (sym (get_or-set_same rows k r' (Free None) lt)) (own_row at n k s e r m)))
+          (subst (λ (x : Row). RowGoes at (unlinked at s) n s k x (row_at (set rows k r') k)) (sym there)
+          (subst (λ (x : Row). RowGoes at (unlinked at s) n s k (There e) x) (sym (get_or-set_same rows k r' (Free None) lt)) (own_row at n k s e r m)))
       | inr q ↦ subst (λ (x : Row). RowGoes at (unlinked at s) n s j (row_at rows j) x) (sym (get_or-set_other rows k j r' (Free None) q))
-        (other_row at n s k j hs
+          (other_row at n s k j hs
           (λ t x. elim (followed at n k None slots e.first e.last t s m x r.1) [
             | inl p ↦ absurd (none-some t p.0)
             | inr p ↦ (member at n k None slots e.first e.last t p.1 r.1).list
@@ -206,8 +206,8 @@ unlinks at n s k rows e lt A hs there =
       lists = record {
         each = λ j. (R j).holds;
         members = λ t j h. subst (λ (o : Option (List ℕ)). InList o t) (sym (R j).list) (
-          let apart : eqb s t ≡ false = ne_eqb s t (λ w. none-some j (sym (ap (λ (x : Link). x.list) (with_here (two at s) s no_link)) ∙ ap (λ (x : ℕ). (unlinked at s x).list) w ∙ h)) in
-          in_gone s t (list_of at n (row_at rows j)) apart (A.members t j (sym (list_kept at s t (flip s t apart)) ∙ h)));
+            let apart : eqb s t ≡ false = ne_eqb s t (λ w. none-some j (sym (ap (λ (x : Link). x.list) (with_here (two at s) s no_link)) ∙ ap (λ (x : ℕ). (unlinked at s x).list) w ∙ h)) in
+            in_gone s t (list_of at n (row_at rows j)) apart (A.members t j (sym (list_kept at s t (flip s t apart)) ∙ h)));
       };
       changed = λ j. (R j).list;
       numbers = numbers_kept rows k e (ends_past e (at s)) there;
@@ -256,10 +256,10 @@ pub unlinks_by : (at at1 at2 at3 : ℕ → Link) (n s k : ℕ) (rows rows' : Lis
     rows' ≡ set rows k (There (record { first = f; last = l })) → AreLists at n rows → (at s).list ≡ Some k → Relinked at at3 n s rows rows' (λ j. gone_from s)
 unlinks_by at at1 at2 at3 n s k rows rows' e x f l ex e1 e2 e3 there ef el er A hs =
     let two_is : at3 ≡ unlinked at s =
-        e3 ∙ ap (λ (a : ℕ → Link). with_link a s no_link) (e2 ∙ ap (λ (a : ℕ → Link). backed a x.after x.before) e1)
-        ∙ ap (λ (y : Link). with_link (backed (led_on at y.before y.after) y.after y.before) s no_link) ex in
+    e3 ∙ ap (λ (a : ℕ → Link). with_link a s no_link) (e2 ∙ ap (λ (a : ℕ → Link). backed a x.after x.before) e1)
+    ∙ ap (λ (y : Link). with_link (backed (led_on at y.before y.after) y.after y.before) s no_link) ex in
     let ends_are : ends_past e (at s) ≡ record { first = f; last = l } =
-        ap (λ (y : Link). ends_past e y) (sym ex) ∙ sym (ap (λ (y : Option ℕ). record { first = y; last = l }) ef ∙ ap (λ (y : Option ℕ). record { first = first_past e.first x.before x.after; last = y }) el) in
+    ap (λ (y : Link). ends_past e y) (sym ex) ∙ sym (ap (λ (y : Option ℕ). record { first = y; last = l }) ef ∙ ap (λ (y : Option ℕ). record { first = first_past e.first x.before x.after; last = y }) el) in
     subst (λ (rs : List Row). Relinked at at3 n s rows rs (λ j. gone_from s)) (ap (λ (y : Ends). set rows k (There y)) ends_are ∙ sym er)
     (subst (λ (a : ℕ → Link). Relinked at a n s rows (set rows k (There (ends_past e (at s)))) (λ j. gone_from s)) (sym two_is)
     (unlinks at n s k rows e (list_within rows k (list_there at n s k rows A hs)) A hs there))

@@ -1,10 +1,9 @@
 -- A store as contracts see it.
-use Rattle.std.specs.Prelude.{◌≡◌, ℕ, ◌<◌, eqb, if◌then◌else◌, slice_get, List, [], ◌∷◌, length, map, Option, Some, None, is_some, slice_index_or, count_by, refl}
+use Rattle.std.specs.Prelude.{ℕ, eqb, if◌then◌else◌, slice_get, List, [], ◌∷◌, length, map, Option, Some, None, is_some, slice_index_or, count_by, refl}
 use Rattle.std.specs.Coded.{Coded, code_by, coded×, coded_ℕ, coded_list, coded_option}
 use Rattle.cd_chain.specs.declared.slot.Slot.{Slot}
 use Rattle.cd_chain.specs.declared.slot.Place.{Place}
 use Rattle.cd_chain.specs.declared.slot.Place.TheVariants.{Used, Vacant}
-use Rattle.cd_chain.specs.declared.lane.Row.{Row}
 use Rattle.cd_chain.specs.declared.lane.Lanes.{Lanes}
 use Rattle.cd_chain.specs.Lanes.{by_lane, rows_in}
 use Rattle.cd_chain.specs.Links.{link_in, places_of}

@@ -1,5 +1,5 @@
 -- The links of slots, and what writes change in them.
-use Rattle.std.specs.Prelude.{◌≡◌, ℕ, if◌then◌else◌, eqb, List, [], ◌∷◌, map, Option, Some, None, slice_index_or}
+use Rattle.std.specs.Prelude.{ℕ, if◌then◌else◌, eqb, List, map, Option, Some, None, slice_index_or}
 use Rattle.cd_chain.specs.declared.link.Link.{Link}
 use Rattle.cd_chain.specs.declared.slot.Slot.{Slot}
 use Rattle.cd_chain.specs.declared.slot.Place.{Place}

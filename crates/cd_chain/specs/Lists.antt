@@ -62,7 +62,8 @@ put_last_in (Some k) s j o = put_in k s j o
 
 -- The links and rows of a lane, when slot s is put into a list or taken out of one: the list under the number j becomes
 -- `change j` of what it was.
-pub record Relinked (at at' : ℕ → Link) (n s : ℕ) (rows rows' : List Row) (change : ℕ → Option (List ℕ) → Option (List ℕ)) : Type 0 where
+pub record Relinked (at at' : ℕ → Link) (n s : ℕ) (rows rows' : List Row)
+    (change : ℕ → Option (List ℕ) → Option (List ℕ)) : Type 0 where
   pub lists : AreLists at' n rows'
   pub changed : (j : ℕ) → list_of at' n (row_at rows' j) ≡ change j (list_of at n (row_at rows j))
   pub numbers : row_cells rows' ≡ row_cells rows

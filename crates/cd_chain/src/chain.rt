@@ -29,13 +29,7 @@ fn or_else(slot: u32, first: Option<u32>) -> Option<u32>
 }
 
 // Takes a slot out of the list that it stands in.
-fn take_out_of<T>(
-    slots: &mut [Slot<T>],
-    lanes: &mut Lanes,
-    lane: u8,
-    slot: usize,
-    list: usize,
-)
+fn take_out_of<T>(slots: &mut [Slot<T>], lanes: &mut Lanes, lane: u8, slot: usize, list: usize)
     requires lane { lane < 3 }
     requires slot { slot < length slots.old }
     requires list { (link_in slots.old lane slot).list ≡ Some list }
@@ -123,13 +117,7 @@ fn put_last<T>(slots: &mut [Slot<T>], lanes: &mut Lanes, lane: u8, slot: u32, li
 }
 
 // Puts a slot last in the list of a lane that is named, if one is.
-fn put_in<T>(
-    slots: &mut [Slot<T>],
-    lanes: &mut Lanes,
-    lane: u8,
-    slot: u32,
-    list: Option<u32>,
-)
+fn put_in<T>(slots: &mut [Slot<T>], lanes: &mut Lanes, lane: u8, slot: u32, list: Option<u32>)
     requires lane { lane < 3 }
     requires slot { slot < length slots.old }
     requires there { IfSome list (λ k. IsThere (row_at (rows_in lanes.old lane) k)) }

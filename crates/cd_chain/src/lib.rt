@@ -4,8 +4,8 @@
 //! - A *lane* is one of three kinds of lists, 0 to 2. A used slot stands in at most one list of each lane.
 //! - A *list* is some slots in an order, under a number of its lane. A slot comes last in the lists that it is put in,
 //!   and may be taken out of any place of them.
-//! - A *link* says of a slot and a lane in which list the slot stands, behind which slot and before which. The links are
-//!   kept in the slots, so each call but `reserve` and `add_list` takes constant time and no memory.
+//! - A *link* says of a slot and a lane in which list the slot stands, behind which slot and before which. The links
+//!   are kept in the slots, so each call but `reserve` and `add_list` takes constant time and no memory.
 //!
 //! `Contents` is what a clause sees of a store: the value of each used slot, the number of spare slots, and the slots
 //! of each list that was added and not dropped.

@@ -58,12 +58,7 @@ pub(crate) fn lead_on<T>(slots: &mut [Slot<T>], lane: u8, slot: Option<u32>, aft
 }
 
 // Has the slot lead back to this one, where there is one.
-pub(crate) fn lead_back<T>(
-    slots: &mut [Slot<T>],
-    lane: u8,
-    slot: Option<u32>,
-    before: Option<u32>,
-)
+pub(crate) fn lead_back<T>(slots: &mut [Slot<T>], lane: u8, slot: Option<u32>, before: Option<u32>)
     requires lane { lane < 3 }
     requires slot { IfSome slot (λ s. s < length slots.old) }
     ensures links { link_in slots.new lane ≡ backed (link_in slots.old lane) slot before }

@@ -1,4 +1,4 @@
-use Rattle.std.proofs.Common.{◌≡◌, length, ◌∙◌, sym, ap, List, ℕ, Option, refl, subst, Some, None}
+use Rattle.std.proofs.Common.{length, sym, ℕ, Option, subst, Some, None}
 use Rattle.cd_chain.specs.Lanes.{rows_in}
 use Rattle.cd_chain.specs.Links.{link_in}
 use Rattle.cd_chain.specs.Lists.{put_last_in, Relinks, in_lane}

@@ -1,11 +1,11 @@
-use Rattle.std.proofs.Common.{◌≡◌, ◌<◌, length, ◌∙◌, sym, ap, subst, refl, List, ℕ, Option, None, get_or, arith}
+use Rattle.std.proofs.Common.{length, ◌∙◌, sym, ap, subst, List, ℕ, None, get_or, arith}
 use Rattle.std.specs.Prelude.{IfSome}
 use Rattle.cd_chain.specs.declared.link.Link.{Link}
 use Rattle.cd_chain.specs.declared.lane.Row.{Row}
 use Rattle.cd_chain.specs.Lanes.{rows_in, row_at}
 use Rattle.cd_chain.specs.Links.{link_in}
-use Rattle.cd_chain.specs.Lists.{IsThere, gone_from, put_last_in, in_lane}
-use Rattle.cd_chain.proofs.Relinking.{three, outs, at_length, lists_at, none_put}
+use Rattle.cd_chain.specs.Lists.{IsThere, put_last_in, in_lane}
+use Rattle.cd_chain.proofs.Relinking.{three, at_length, lists_at, none_put}
 use Rattle.cd_chain.proofs.chain.put_in_lists.Goals as goal
 
 pub returns-clause-lists : goal.returns-clause-lists

@@ -1,10 +1,8 @@
-use Rattle.std.proofs.Common.{◌≡◌, ◌<◌, length, ℕ, List, Option, sym, subst, ap, ◌∙◌}
+use Rattle.std.proofs.Common.{◌<◌, length, ℕ, List, sym, subst, ap, ◌∙◌}
 use Rattle.std.specs.Prelude.{IfSome}
 use Rattle.cd_chain.specs.declared.lane.Row.{Row}
 use Rattle.cd_chain.specs.Lanes.{rows_in, row_at}
 use Rattle.cd_chain.specs.Links.{link_in}
-use Rattle.cd_chain.specs.Lists.{IsThere}
-use Rattle.cd_chain.proofs.Unlinking.{list_within}
 use Rattle.cd_chain.proofs.Putting.{puts_by, last_within}
 use Rattle.cd_chain.proofs.chain.put_last.Goals as goal
 

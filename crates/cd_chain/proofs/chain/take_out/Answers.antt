@@ -1,4 +1,4 @@
-use Rattle.std.proofs.Common.{◌≡◌, length, ◌∙◌, sym, ap, List, ℕ}
+use Rattle.std.proofs.Common.{length, ◌∙◌, sym, ap}
 use Rattle.cd_chain.specs.declared.link.Link.{Link}
 use Rattle.cd_chain.specs.Lanes.{rows_in}
 use Rattle.cd_chain.specs.Links.{link_in}

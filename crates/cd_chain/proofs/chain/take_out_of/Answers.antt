@@ -1,10 +1,9 @@
-use Rattle.std.proofs.Common.{◌≡◌, ◌<◌, length, None, ℕ, List, sym, subst, ap, ◌∙◌}
+use Rattle.std.proofs.Common.{◌<◌, length, ℕ, List, sym, subst, ap, ◌∙◌}
 use Rattle.std.specs.Prelude.{IfSome}
 use Rattle.cd_chain.specs.declared.link.Link.{Link}
 use Rattle.cd_chain.specs.declared.lane.Row.{Row}
 use Rattle.cd_chain.specs.Lanes.{rows_in, row_at}
 use Rattle.cd_chain.specs.Links.{link_in}
-use Rattle.cd_chain.specs.Lists.{IsThere}
 use Rattle.cd_chain.proofs.Unlinking.{list_there, list_within, before_within, after_within, unlinks_by, is_out}
 use Rattle.cd_chain.proofs.chain.take_out_of.Goals as goal
 

@@ -1,5 +1,4 @@
-use Rattle.std.proofs.Common.{refl, ◌∙◌, sym, subst, ◌≡◌, Option, ℕ, List, set, ap}
-use Rattle.cd_chain.specs.declared.lane.Row.{Row}
+use Rattle.std.proofs.Common.{◌∙◌, Option, ℕ, set, ap}
 use Rattle.cd_chain.specs.declared.lane.Row.TheVariants.{Free}
 use Rattle.cd_chain.specs.Lanes.{rows_in}
 use Rattle.cd_chain.proofs.Rows.{drops}

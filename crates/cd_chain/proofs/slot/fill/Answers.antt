@@ -1,8 +1,7 @@
-use Rattle.std.proofs.Common.{refl, ◌∙◌, ap, sym, set}
+use Rattle.std.proofs.Common.{refl, ◌∙◌, ap, set}
 use Rattle.std.proofs.lemmas.List.{map-set}
 use Rattle.cd_chain.proofs.Writes.{same_links}
 use Rattle.cd_chain.proofs.Places.{free_not_used, cell_found}
-use Rattle.cd_chain.specs.declared.slot.Place.{Place}
 use Rattle.cd_chain.specs.Links.{places_of}
 use Rattle.cd_chain.proofs.slot.fill.Goals as goal
 

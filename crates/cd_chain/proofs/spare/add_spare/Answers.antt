@@ -1,5 +1,4 @@
-use Rattle.std.proofs.Common.{◌≡◌, ◌≤◌, ◌<◌, ◌+◌, ◌∙◌, ap, sym, subst, ℕ, arith, vec_len, vec_capacity}
-use Rattle.cd_chain.specs.Holds.{MakesSpare}
+use Rattle.std.proofs.Common.{◌+◌, ◌∙◌, ap, ℕ, arith}
 use Rattle.cd_chain.proofs.Making.{makes_none, makes_more}
 use Rattle.cd_chain.proofs.spare.add_spare.Goals as goal
 

@@ -1,4 +1,4 @@
-use Rattle.std.proofs.Common.{◌≡◌, ◌<◌, ◌≤◌, ◌+◌, ◌^◌, ℕ, vec_len, vec_capacity}
+use Rattle.std.proofs.Common.{◌≡◌, ◌≤◌, ◌+◌, vec_len, vec_capacity}
 use Rattle.cd_chain.specs.Holds.{MakesSpare}
 use Rattle.cd_chain.proofs.spare.add_spare.Given as goal
 

@@ -1,4 +1,4 @@
-use Rattle.std.proofs.Common.{refl, ◌∙◌, sym}
+use Rattle.std.proofs.Common.{refl, ◌∙◌}
 use Rattle.cd_chain.proofs.Making.{makes_one}
 use Rattle.cd_chain.proofs.spare.push_spare.Goals as goal
 

@@ -1,4 +1,3 @@
-use Rattle.std.proofs.Common.{◌≡◌, ◌∙◌, ap, sym, List, ℕ, Option}
 use Rattle.cd_chain.proofs.Stores.{adds_any, adds_ok, adds_err, room_for_list}
 use Rattle.cd_chain.proofs.store.Store.add_list.Goals as goal
 

@@ -1,4 +1,4 @@
-use Rattle.std.proofs.Common.{◌≡◌, ◌∙◌, ap, sym, List, ℕ, Option}
+use Rattle.std.proofs.Common.{ap, List, ℕ, Option}
 use Rattle.std.specs.Prelude.{is_some}
 use Rattle.cd_chain.proofs.Seeing.{there_seen}
 use Rattle.cd_chain.proofs.Stores.{dropped_holds, drops_list}

@@ -1,4 +1,4 @@
-use Rattle.std.proofs.Common.{◌≡◌, ◌∙◌, ap, sym, List}
+use Rattle.std.proofs.Common.{◌∙◌, ap, sym, List}
 use Rattle.cd_chain.specs.declared.lane.Row.{Row}
 use Rattle.cd_chain.specs.Lanes.{row_at}
 use Rattle.cd_chain.proofs.Seeing.{first_is}

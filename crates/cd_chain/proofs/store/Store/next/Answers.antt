@@ -1,4 +1,4 @@
-use Rattle.std.proofs.Common.{◌≡◌, ◌∙◌, ap, sym, ◌<◌, List, Option, ℕ, subst}
+use Rattle.std.proofs.Common.{◌∙◌, ap, sym, subst}
 use Rattle.std.specs.Prelude.{IsSome, IfSome}
 use Rattle.cd_chain.specs.declared.link.Link.{Link}
 use Rattle.cd_chain.specs.Contents.{value_at}

@@ -1,4 +1,4 @@
-use Rattle.std.proofs.Common.{◌≡◌, List, ℕ, length, sym, ap, ◌∙◌, subst, ◌<◌, ◌+◌, ◌-◌, Option, None, get_or, arith}
+use Rattle.std.proofs.Common.{◌≡◌, ℕ, length, sym, ap, ◌∙◌, subst, ◌<◌, ◌+◌, ◌-◌, None, get_or, arith}
 use Rattle.std.specs.Vec.{with_items}
 use Rattle.std.proofs.lemmas.List.{with_items_is}
 use Rattle.cd_chain.specs.Contents.{Contents}
@@ -49,7 +49,7 @@ invariant_of-self g c =
     let some : 0 < c.self.inside.spare = subst (λ (n : ℕ). 0 < n) (ap (λ (x : Contents g.row.T.Denot). x.spare) (sym c.self.view_is)) c.requires.spare in
     let es : c.self.inside.spare ≡ (c.self.inside.spare - 1) + 1 = omega arith in
     let h = puts_holds c.self.inside.slots.items c.fill-self-inside.new.slots c.put_in_lists.new.slots c.self.inside.lanes c.put_in_lists.new.lanes c.self.inside.spare (c.self.inside.spare - 1) c.unwrap-slot.result c.self.inside.free c.fill-self-inside.result c.args.value
-        (λ (l : ℕ). put_last_in (get_or c.args.lists l None) c.unwrap-slot.result) c.self.invariant c.unwrap-slot.ensures es N (c.fill-self-inside.auto.slots ∙ ap length v) L P R (c.put_in_lists.auto.slots ∙ ap length v2) Q c.put_in_lists.ensures.free in
+    (λ (l : ℕ). put_last_in (get_or c.args.lists l None) c.unwrap-slot.result) c.self.invariant c.unwrap-slot.ensures es N (c.fill-self-inside.auto.slots ∙ ap length v) L P R (c.put_in_lists.auto.slots ∙ ap length v2) Q c.put_in_lists.ensures.free in
     rw e2 h
 
 pub returns-clause-values : goal.returns-clause-values
@@ -62,7 +62,7 @@ returns-clause-values g c =
     let P = rw v at c.fill-self-inside.ensures.places in
     let Q = rw v2 at c.put_in_lists.ensures.places in
     let h = puts_values c.self.inside.slots.items c.fill-self-inside.new.slots c.put_in_lists.new.slots c.self.inside.lanes c.put_in_lists.new.lanes c.self.inside.spare (c.self.inside.spare - 1) c.unwrap-slot.result c.fill-self-inside.result c.args.value c.args.self.now
-        c.self.view_is N (spare_within c.self.inside.slots.items (link_in c.self.inside.slots.items) c.self.inside.free c.self.inside.spare c.unwrap-slot.result c.self.invariant.slots_hold c.unwrap-slot.ensures) P Q in
+    c.self.view_is N (spare_within c.self.inside.slots.items (link_in c.self.inside.slots.items) c.self.inside.free c.self.inside.spare c.unwrap-slot.result c.self.invariant.slots_hold c.unwrap-slot.ensures) P Q in
     rw e2 h
 
 pub returns-clause-lists : goal.returns-clause-lists
@@ -74,5 +74,5 @@ returns-clause-lists g c =
     let L = rw v at c.fill-self-inside.ensures.links in
     let R = rw v2 at c.put_in_lists.ensures.lists in
     let h = puts_lists c.self.inside.slots.items c.fill-self-inside.new.slots c.put_in_lists.new.slots c.self.inside.lanes c.put_in_lists.new.lanes c.self.inside.spare (c.self.inside.spare - 1) c.unwrap-slot.result c.args.self.now
-        (λ (l : ℕ). put_last_in (get_or c.args.lists l None) c.unwrap-slot.result) c.self.view_is (c.fill-self-inside.auto.slots ∙ ap length v) L R (c.put_in_lists.auto.slots ∙ ap length v2) in
+    (λ (l : ℕ). put_last_in (get_or c.args.lists l None) c.unwrap-slot.result) c.self.view_is (c.fill-self-inside.auto.slots ∙ ap length v) L R (c.put_in_lists.auto.slots ∙ ap length v2) in
     rw e2 h
