@@ -9,7 +9,7 @@ use crate::messages::put_message;
 use crate::packets::put_address;
 use crate::text::{put_bytes, put_field, put_time, yes_or_no};
 use cd_hints::Settings;
-use cd_ident::{Body, Event, EventRules, Kind, compatible_ids, event_of};
+use cd_ident::{Body, Event, EventRules, Ids, Kind, compatible_ids, event_of};
 use cd_name::List;
 use cd_packet::{Addr, Dgram, Layer, Packet, is_ethernet_ipv4, layers};
 use cd_pairing::{Windows, pair_all};
@@ -161,22 +161,29 @@ fn put_ends(text: &mut String, event: &Event) -> Result<(), AllocError> {
     writeln!(text, " port {}", event.server_port)
 }
 
-// An event and what it keeps, field by field.
-fn put_event(text: &mut String, index: usize, event: &Event) -> Result<(), AllocError> {
-    writeln!(text, "event {index} {}", word_of(event.kind))?;
+fn put_event_time(text: &mut String, time: u64) -> Result<(), AllocError> {
     text.push_str("  time ")?;
-    put_time(text, event.time)?;
-    text.push('\n')?;
-    put_ends(text, event)?;
+    put_time(text, time)?;
+    text.push('\n')
+}
+
+fn put_event_numbers(text: &mut String, event: &Event) -> Result<(), AllocError> {
     put_field(text, "  hop-limit", &event.hop)?;
     put_field(text, "  size", &event.size)?;
     put_field(text, "  trailing-bytes", &yes_or_no(event.trailing))?;
-    put_field(text, "  weight", &event.weight)?;
-    put_bytes(text, "  primary", &event.ids.primary)?;
-    if let Some(secondary) = &event.ids.secondary {
-        put_bytes(text, "  secondary", secondary.as_slice())?;
+    put_field(text, "  weight", &event.weight)
+}
+
+fn put_ids(text: &mut String, ids: &Ids) -> Result<(), AllocError> {
+    put_bytes(text, "  primary", &ids.primary)?;
+    match &ids.secondary {
+        Some(secondary) => put_bytes(text, "  secondary", secondary.as_slice()),
+        None => Ok(()),
     }
-    match &event.body {
+}
+
+fn put_body(text: &mut String, body: &Body) -> Result<(), AllocError> {
+    match body {
         Body::Message(message) => {
             text.push_str("  message\n")?;
             put_message(text, "    ", message)
@@ -184,6 +191,16 @@ fn put_event(text: &mut String, index: usize, event: &Event) -> Result<(), Alloc
         Body::Payload(payload) => put_bytes(text, "  payload", payload.as_slice()),
         Body::Nothing => Ok(()),
     }
+}
+
+// An event and what it keeps, field by field.
+fn put_event(text: &mut String, index: usize, event: &Event) -> Result<(), AllocError> {
+    writeln!(text, "event {index} {}", word_of(event.kind))?;
+    put_event_time(text, event.time)?;
+    put_ends(text, event)?;
+    put_event_numbers(text, event)?;
+    put_ids(text, &event.ids)?;
+    put_body(text, &event.body)
 }
 
 /// Each event with its identifiers and what is kept of its payload.

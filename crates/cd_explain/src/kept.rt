@@ -3,7 +3,7 @@
 use crate::names::{put_name, put_name_field};
 use crate::text::{put_bytes, put_field, put_hex, put_optional};
 use cd_block::{KeptBlock, KeptData, KeptItem, KeptLists, KeptMalformed, KeptRr, KeptSig, Stats};
-use cd_name::Blob;
+use cd_name::{Blob, Name};
 use std::alloc::AllocError;
 use std::fmt::Write;
 
@@ -91,23 +91,41 @@ fn put_extended(text: &mut String, name: &str, lists: &KeptLists) -> Result<(), 
     put_records(text, "additional", lists.additional.as_slice())
 }
 
-// A query-response item (7.3.2.4).
-fn put_item(text: &mut String, item: &KeptItem) -> Result<(), AllocError> {
-    text.push_str("item\n")?;
+fn put_item_client(text: &mut String, item: &KeptItem) -> Result<(), AllocError> {
     put_optional(text, "  time-offset", &item.time_offset)?;
     put_kept_bytes(text, "  client-address", &item.client_address)?;
     put_optional(text, "  client-port", &item.client_port)?;
-    put_optional(text, "  transaction-id", &item.transaction_id)?;
-    if let Some(sig) = &item.signature {
-        put_signature(text, sig)?;
+    put_optional(text, "  transaction-id", &item.transaction_id)
+}
+
+fn put_item_signature(text: &mut String, sig: &Option<KeptSig>) -> Result<(), AllocError> {
+    match sig {
+        Some(sig) => put_signature(text, sig),
+        None => Ok(()),
     }
+}
+
+fn put_item_name(text: &mut String, name: &Option<Name>) -> Result<(), AllocError> {
+    match name {
+        Some(name) => put_name_field(text, "  query-name", name.as_slice()),
+        None => Ok(()),
+    }
+}
+
+fn put_item_sizes(text: &mut String, item: &KeptItem) -> Result<(), AllocError> {
+    put_optional(text, "  query-size", &item.query_size)?;
+    put_optional(text, "  response-size", &item.response_size)
+}
+
+// A query-response item (7.3.2.4).
+fn put_item(text: &mut String, item: &KeptItem) -> Result<(), AllocError> {
+    text.push_str("item\n")?;
+    put_item_client(text, item)?;
+    put_item_signature(text, &item.signature)?;
     put_optional(text, "  client-hoplimit", &item.client_hoplimit)?;
     put_optional(text, "  response-delay", &item.response_delay)?;
-    if let Some(name) = &item.query_name {
-        put_name_field(text, "  query-name", name.as_slice())?;
-    }
-    put_optional(text, "  query-size", &item.query_size)?;
-    put_optional(text, "  response-size", &item.response_size)?;
+    put_item_name(text, &item.query_name)?;
+    put_item_sizes(text, item)?;
     put_extended(text, "query-extended", &item.query_extended)?;
     put_extended(text, "response-extended", &item.response_extended)
 }
