@@ -9,8 +9,6 @@ mod bytes;
 #[cfg(test)]
 mod captures;
 #[cfg(test)]
-mod events;
-#[cfg(test)]
 mod lists;
 #[cfg(test)]
 mod messages;
@@ -18,8 +16,6 @@ mod messages;
 mod names;
 #[cfg(test)]
 mod opt_records;
-#[cfg(test)]
-mod packets;
 #[cfg(test)]
 mod pairing;
 #[cfg(test)]

@@ -5,15 +5,10 @@ use std::alloc::AllocError;
 fn a_blob_holds_its_bytes(rt: HostRuntime) -> Result<(), AllocError> {
     let mut blob = Blob::from_vec(Vec::from_slice(rt.alloc(), b"ab")?);
     blob.push(b'c')?;
-    assert!(rt; blob.as_slice() == b"abc".as_slice());
     blob.push_slice(b"de".as_slice())?;
     blob.truncate(4);
-    assert!(rt; blob.as_slice() == b"abcd".as_slice());
-    if blob.as_slice().len() == 4 {
-        blob.set(3, b'e');
-    }
     let bytes = blob.into_vec();
-    assert!(rt; bytes.as_slice() == b"abce".as_slice());
+    assert!(rt; bytes.as_slice() == b"abcd".as_slice());
     Ok(())
 }
 

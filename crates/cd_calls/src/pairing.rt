@@ -52,29 +52,6 @@ fn pair_samples(alloc: Global, events: &[Sample]) -> Result<List<Option<usize>>,
     pair_all(alloc, few, &WINDOWS)
 }
 
-fn event(side: Side, client: u8, time: u64) -> Sample {
-    Sample {
-        side,
-        time,
-        client: [192, 0, client],
-    }
-}
-
-#[test]
-fn the_earliest_that_agrees_is_joined(rt: HostRuntime) {
-    let events = [
-        event(Side::Query, 1, 0),
-        event(Side::Query, 2, 1),
-        event(Side::Query, 1, 2),
-        event(Side::Response, 1, 3),
-    ];
-    let partners = pair_samples(rt.alloc(), &events).expect(&rt, "there is memory");
-    assert_eq!(rt;
-        partners.as_slice(),
-        [Some(3), None, None, Some(0)].as_slice()
-    );
-}
-
 const LOOKUPS: u64 = 40_000;
 
 // Lookups 2.5 ms apart, which is 100 s in all, each with its response 0.1 ms after it. Every sixteenth has an

@@ -8,7 +8,7 @@ ghost use Rattle.cd_ident.specs.Keys.{parts_of};
 ghost use Rattle.cd_record.specs.Laws.{IsLight, events_of};
 ghost use Rattle.cd_record.specs.Runs.{limits_of};
 
-use cd_hints::{NumberOption, Rec, Settings, default_settings};
+use cd_hints::{Rec, Settings, default_settings};
 use cd_ident::{Event, EventRules, Kind, event_of};
 use cd_packet::{Addr, Dgram};
 use cd_record::laws::one_record_is_admissible;
@@ -77,20 +77,15 @@ fn push(
 }
 
 #[test]
-fn a_second_malformed_message_begins_a_block(rt: HostRuntime) -> Result<(), AllocError> {
-    let mut settings = default_settings(rt.alloc())?;
-    settings.put(NumberOption::BlockItems, 1);
+fn a_block_is_kept_of_a_run(rt: HostRuntime) -> Result<(), AllocError> {
+    let settings = default_settings(rt.alloc())?;
     let mut cutter = Cutter::new(rt.alloc(), &settings);
     let given = push(&mut cutter, &settings, alone(event(rt.alloc(), b"\x1a")?))?;
     assert!(rt; given.is_none());
-    let given = push(&mut cutter, &settings, alone(event(rt.alloc(), b"\x1b")?))?;
-    assert!(rt; given.is_some());
     let given = push(&mut cutter, &settings, alone(event(rt.alloc(), &HEADER)?))?;
     assert!(rt; given.is_none());
-    assert_eq!(rt; cutter.pending(), 2);
-    assert_eq!(rt; cutter.pending_weight(), 513);
     let Some(run) = cutter.finish() else {
-        panic!(rt; "no run");
+        return Err(AllocError);
     };
     let block = kept_block(rt.alloc(), &settings, &run)?;
     assert_eq!(rt; block.items.as_slice().len(), 1);

@@ -4,7 +4,7 @@ use super::sample::{capture, compacted, file_of, only, sound_sink};
 use cd_name::Blob;
 use cd_ports::{MemSink, MemSource, SureSource};
 use cd_top::Status;
-use std::alloc::AllocError;
+use std::alloc::{AllocError, Global};
 
 #[test]
 fn a_read_that_fails_ends_the_run(rt: HostRuntime) -> Result<(), AllocError> {
@@ -15,32 +15,31 @@ fn a_read_that_fails_ends_the_run(rt: HostRuntime) -> Result<(), AllocError> {
         let mut out = sound_sink(alloc);
         let status = compacted(alloc, &mut src, &mut out)?;
         let wanted = file_of(alloc, capture(alloc, count)?)?;
-        assert!(rt; status == Status::ReadFault, "at {call}");
-        assert!(rt; out.contents() == wanted.as_slice(), "at {call}");
+        assert!(rt; status == Status::ReadFault);
+        assert!(rt; out.contents() == wanted.as_slice());
     }
     Ok(())
 }
 
+// What a sink holds that fails at one call, where that ends the run.
+fn held_at_fault(alloc: Global, call: u64, keep: usize) -> Result<MemSink, AllocError> {
+    let mut src = SureSource::new(Blob::from_vec(capture(alloc, 1)?));
+    let mut out = MemSink::new(alloc, only(alloc, call)?, keep);
+    match compacted(alloc, &mut src, &mut out)? {
+        Status::WriteFault => Ok(out),
+        _ => Err(AllocError),
+    }
+}
+
 #[test]
 fn a_write_that_fails_leaves_a_prefix(rt: HostRuntime) -> Result<(), AllocError> {
-    let alloc = rt.alloc();
-    let wanted = file_of(alloc, capture(alloc, 1)?)?;
+    let wanted = file_of(rt.alloc(), capture(rt.alloc(), 1)?)?;
     let last = wanted.len().saturating_sub(1);
     // The file is written in three pieces: 60 bytes, the block, and one byte.
-    for (call, keep, held) in [
-        (0, 0, 0),
-        (0, 5, 5),
-        (1, 0, 60),
-        (1, 5, 65),
-        (2, 0, last),
-        (2, 5, wanted.len()),
-    ] {
-        let mut src = SureSource::new(Blob::from_vec(capture(alloc, 1)?));
-        let mut out = MemSink::new(alloc, only(alloc, call)?, keep);
-        let status = compacted(alloc, &mut src, &mut out)?;
-        assert!(rt; status == Status::WriteFault, "at {call} with {keep}");
-        assert!(rt; out.contents().len() == held, "at {call} with {keep}");
-        assert!(rt; wanted.starts_with(out.contents()), "at {call} with {keep}");
+    for (call, keep, held) in [(0, 5, 5), (1, 0, 60), (1, 5, 65), (2, 0, last)] {
+        let out = held_at_fault(rt.alloc(), call, keep)?;
+        assert!(rt; out.contents().len() == held);
+        assert!(rt; wanted.starts_with(out.contents()));
     }
     Ok(())
 }

@@ -10,74 +10,68 @@ const HEADER: [u8; 24] = [
     0xd4, 0xc3, 0xb2, 0xa1, 2, 0, 4, 0, 0, 0, 0, 0, 0, 0, 0, 0, 0, 0, 4, 0, 1, 0, 0, 0,
 ];
 
-// A record of 70 bytes: at 1,700,000,000.1 s a query with id 0x1a2b and the flag RD, from 192.0.2.77, port 40000, to
-// 192.0.2.53, port 53. The microseconds stand at 4, the client at 42.
-const QUERY: [u8; 70] = [
-    0x00, 0xf1, 0x53, 0x65, 0xa0, 0x86, 0x01, 0x00, 54, 0, 0, 0, 54, 0, 0, 0, 0x02, 0, 0, 0, 0,
-    0x01, 0x02, 0, 0, 0, 0, 0x02, 0x08, 0x00, 0x45, 0, 0, 40, 0, 0, 0, 0, 64, 17, 0, 0, 192, 0, 2,
-    77, 192, 0, 2, 53, 0x9c, 0x40, 0, 53, 0, 20, 0, 0, 0x1a, 0x2b, 0x01, 0x00, 0, 0, 0, 0, 0, 0, 0,
-    0,
+// The parts of a record of 70 bytes: a query with id 0x1a2b and the flag RD, from port 40000 of a client to 192.0.2.53, port
+// 53. Before the front stands the time, and between front and back the client's address.
+const QUERY_FRONT: &[u8] = &[
+    54, 0, 0, 0, 54, 0, 0, 0, 0x02, 0, 0, 0, 0, 0x01, 0x02, 0, 0, 0, 0, 0x02, 0x08, 0x00, 0x45, 0,
+    0, 40, 0, 0, 0, 0, 64, 17, 0, 0,
 ];
 
-// A record of 70 bytes: the response to the query, 20 ms later, with the flags QR, RD and RA. The seconds stand at 0,
-// the microseconds at 4, the client at 46.
-const RESPONSE: [u8; 70] = [
-    0x00, 0xf1, 0x53, 0x65, 0xc0, 0xd4, 0x01, 0x00, 54, 0, 0, 0, 54, 0, 0, 0, 0x02, 0, 0, 0, 0,
-    0x02, 0x02, 0, 0, 0, 0, 0x01, 0x08, 0x00, 0x45, 0, 0, 40, 0, 0, 0, 0, 64, 17, 0, 0, 192, 0, 2,
-    53, 192, 0, 2, 77, 0, 53, 0x9c, 0x40, 0, 20, 0, 0, 0x1a, 0x2b, 0x81, 0x80, 0, 0, 0, 0, 0, 0, 0,
-    0,
+const QUERY_BACK: &[u8] = &[
+    192, 0, 2, 53, 0x9c, 0x40, 0, 53, 0, 20, 0, 0, 0x1a, 0x2b, 0x01, 0x00, 0, 0, 0, 0, 0, 0, 0, 0,
 ];
 
-// 100 microseconds later for each number.
-fn micros(number: u32) -> [u8; 4] {
-    number
-        .saturating_mul(100)
-        .saturating_add(100_000)
-        .to_le_bytes()
-}
+// The parts of the record of its response, with the flags QR, RD and RA.
+const RESPONSE_FRONT: &[u8] = &[
+    54, 0, 0, 0, 54, 0, 0, 0, 0x02, 0, 0, 0, 0, 0x02, 0x02, 0, 0, 0, 0, 0x01, 0x08, 0x00, 0x45, 0,
+    0, 40, 0, 0, 0, 0, 64, 17, 0, 0, 192, 0, 2, 53,
+];
 
-// From the next client 10.x.y.z for each number.
-fn query(number: u32) -> [u8; 70] {
-    let mut record = QUERY;
-    let time = micros(number);
-    let [_, high, middle, low] = number.to_be_bytes();
-    record[4] = time[0];
-    record[5] = time[1];
-    record[6] = time[2];
-    record[7] = time[3];
-    record[42] = 10;
-    record[43] = high;
-    record[44] = middle;
-    record[45] = low;
-    record
-}
+const RESPONSE_BACK: &[u8] = &[
+    0, 53, 0x9c, 0x40, 0, 20, 0, 0, 0x1a, 0x2b, 0x81, 0x80, 0, 0, 0, 0, 0, 0, 0, 0,
+];
 
-// A second after its query.
-fn response(number: u32) -> [u8; 70] {
-    let mut record = RESPONSE;
-    let time = micros(number);
-    let [_, high, middle, low] = number.to_be_bytes();
-    record[0] = 1;
-    record[4] = time[0];
-    record[5] = time[1];
-    record[6] = time[2];
-    record[7] = time[3];
-    record[46] = 10;
-    record[47] = high;
-    record[48] = middle;
-    record[49] = low;
-    record
+// Appends so many records that differ in their time and in their client: each 100 microseconds after the one before, the first
+// 100 ms after a second of the year 2023, and from the next client 10.x.y.z.
+fn push_records(
+    bytes: &mut Vec<u8>,
+    second: u32,
+    front: &[u8],
+    back: &[u8],
+    count: u32,
+) -> Result<(), AllocError> {
+    for number in 0..count {
+        let seconds = second.to_le_bytes();
+        let micros = number
+            .saturating_mul(100)
+            .saturating_add(100_000)
+            .to_le_bytes();
+        let [_, high, middle, low] = number.to_be_bytes();
+        let client = [10, high, middle, low];
+        for piece in [
+            seconds.as_slice(),
+            micros.as_slice(),
+            front,
+            client.as_slice(),
+            back,
+        ] {
+            bytes.extend_from_slice(piece)?;
+        }
+    }
+    Ok(())
 }
 
 /// A capture of so many queries, and then their responses in the same order.
 pub fn capture(alloc: Global, count: u32) -> Result<Vec<u8>, AllocError> {
     let mut bytes = Vec::from_slice(alloc, &HEADER)?;
-    for number in 0..count {
-        bytes.extend_from_slice(&query(number))?;
-    }
-    for number in 0..count {
-        bytes.extend_from_slice(&response(number))?;
-    }
+    push_records(&mut bytes, 1_700_000_000, QUERY_FRONT, QUERY_BACK, count)?;
+    push_records(
+        &mut bytes,
+        1_700_000_001,
+        RESPONSE_FRONT,
+        RESPONSE_BACK,
+        count,
+    )?;
     Ok(bytes)
 }
 
@@ -88,7 +82,7 @@ pub fn sound_sink(alloc: Global) -> MemSink {
 
 /// A list of one number of a call.
 pub fn only(alloc: Global, call: u64) -> Result<List<u64>, AllocError> {
-    Ok(List::from_vec(Vec::from_slice(alloc, &[call])?))
+    Ok(List::from_vec(vec![in alloc; call]?))
 }
 
 /// Words of a command line.
