@@ -5,9 +5,13 @@
 #![tactic(auto)]
 
 #[cfg(test)]
+mod blocks;
+#[cfg(test)]
 mod bytes;
 #[cfg(test)]
 mod captures;
+#[cfg(test)]
+mod cbor;
 #[cfg(test)]
 mod lists;
 #[cfg(test)]
