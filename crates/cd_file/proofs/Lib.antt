@@ -1,3 +1,4 @@
 pub mod Begun
 pub mod Maps
 pub mod Numbers
+pub mod Sizes

@@ -3,3 +3,4 @@ pub mod Head
 pub mod Tables
 pub mod Blocks
 pub mod Files
+pub mod Ranges

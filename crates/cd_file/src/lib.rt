@@ -27,7 +27,8 @@
 //! end_bytes(&mut out)?;
 //! ```
 //!
-//! `laws` says that these calls in turn write the file of the parameters and of the two blocks.
+//! `laws` says that these calls in turn write the file of the parameters and of the two blocks, `size_laws` how many bytes
+//! each map of a block takes at most.
 #![tactic(auto)]
 
 mod block;
@@ -37,6 +38,7 @@ mod head;
 mod items;
 pub mod laws;
 mod opcodes;
+pub mod size_laws;
 mod spelled;
 mod tables;
 
