@@ -7,11 +7,11 @@ use crate::Ended;
 use crate::asked::{Asked, Request, number_of};
 use crate::captures::walk;
 use crate::events::{Events, put_events, put_pairs};
+use crate::files::{put_end, put_head};
 use crate::inputs::{bytes_of_hex, words_of_line};
 use crate::messages::explain_message;
 use crate::names::{explain_checksum, explain_name, explain_numbers, explain_prefix};
 use crate::packets::{Layers, Packets, put_walked};
-use crate::files::{put_end, put_head};
 use crate::runs::{Shown, put_runs};
 use crate::settings::explain_words;
 use cd_hints::Settings;
@@ -80,7 +80,14 @@ fn put_capture(
             match asked {
                 Asked::Pairs => put_pairs(text, events.as_slice(), partners.as_slice())?,
                 Asked::Records => {
-                    put_runs(alloc, text, settings, Shown::Kept, events, partners.as_slice())?
+                    put_runs(
+                        alloc,
+                        text,
+                        settings,
+                        Shown::Kept,
+                        events,
+                        partners.as_slice(),
+                    )?
                 }
                 Asked::File => put_file(alloc, text, settings, events, partners.as_slice())?,
                 _ => put_events(text, events.as_slice())?,
