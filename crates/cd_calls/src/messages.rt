@@ -1,4 +1,5 @@
-use cd_message::{parse, write};
+use cd_message::{Message, Question, parse, write};
+use cd_name::{List, read_name};
 use std::alloc::{AllocError, Global};
 
 // A response of so many answers, with a question for the name a.
@@ -30,5 +31,42 @@ fn a_message_of_thousands_of_answers(rt: HostRuntime) -> Result<(), AllocError> 
         Some(written) => assert!(rt; written.as_slice() == payload.as_slice()),
         None => assert!(rt; false),
     }
+    Ok(())
+}
+
+// A question for the root.
+fn question(alloc: Global) -> Result<Question, AllocError> {
+    match read_name(alloc, b"\0", 0) {
+        Ok((name, _next)) => Ok(Question {
+            name,
+            rtype: 1,
+            rclass: 1,
+        }),
+        Err(_) => Err(AllocError),
+    }
+}
+
+// A message of so many questions and no record.
+fn message_of_questions(alloc: Global, count: u64) -> Result<Message, AllocError> {
+    let mut questions = Vec::new(alloc);
+    for _ in 0..count {
+        questions.push(question(alloc)?)?;
+    }
+    Ok(Message {
+        id: 0,
+        bits: 0,
+        questions: List::from_vec(questions),
+        answers: List::from_vec(Vec::new(alloc)),
+        authority: List::from_vec(Vec::new(alloc)),
+        additional: List::from_vec(Vec::new(alloc)),
+    })
+}
+
+// A section has at most 65,535 entries.
+#[test]
+fn too_many_questions_are_not_written(rt: HostRuntime) -> Result<(), AllocError> {
+    let message = message_of_questions(rt.alloc(), 65_536)?;
+    let written = write(rt.alloc(), &message)?;
+    assert!(rt; written.is_none());
     Ok(())
 }
