@@ -1,5 +1,5 @@
--- What a block resolves to: the kept block that has each value where the block has its index, or the first fault in the order in
--- which a kept block is gone through (`Traversal`).
+-- What a block resolves to: the kept block that has each value where the block has its index, or the first fault in the
+-- order in which a kept block is gone through (`Traversal`).
 use Rattle.std.specs.Prelude.{ℕ, Bool, ◌&&◌, nat_le, List, [], ◌∷◌, length, slice_get, Option, Some, None, Result, Ok, Err, if◌then◌else◌}
 use Rattle.std.specs.Option.{ok_or}
 use Rattle.cd_name.specs.Names.{are_labels_and_root}
@@ -17,7 +17,8 @@ use Rattle.cd_block.specs.declared.block.BlockItem.{BlockItem}
 use Rattle.cd_block.specs.declared.block.BlockMalformed.{BlockMalformed}
 use Rattle.cd_block.specs.declared.block.Block.{Block}
 
--- why a block does not resolve: an index is at or past the length of the table of this key, or bytes that are used as a name are none
+-- why a block does not resolve: an index is at or past the length of the table of this key, or bytes that are used as a
+-- name are none
 pub data Unresolved : Type 0 where
   PastTable : ℕ → Unresolved
   NotName : Unresolved

@@ -1,5 +1,5 @@
--- The block of a kept block: nine tables, each of which has each of its values once, in the order of first use, and the index
--- of each value in its place (RFC 8618 7.3.2.3).
+-- The block of a kept block: nine tables, each of which has each of its values once, in the order of first use, and the
+-- index of each value in its place (RFC 8618 7.3.2.3).
 use Rattle.std.specs.Prelude.{ℕ, Bool, not, List, [], ◌∷◌, length, map, filter, position, unwrap_or, Option, Some, None}
 use Rattle.std.specs.Option.{option_map}
 use Rattle.cd_block.specs.declared.kept.KeptQuestion.{KeptQuestion}

@@ -1,5 +1,5 @@
--- The values of a kept block that stand in tables, in the order in which a block is gone through (RFC 8618 7.3.2.3). The
--- tables and the resolving of a block follow this order.
+-- The values of a kept block that stand in tables, in the order in which a block is gone through (RFC 8618 7.3.2.3).
+-- The tables and the resolving of a block follow this order.
 use Rattle.std.specs.Prelude.{ℕ, List, [], ◌∷◌, ◌++◌, Option, Some, None}
 use Rattle.std.specs.List.{flat_map, filter_map}
 use Rattle.std.specs.Option.{option_map_or}
@@ -69,7 +69,10 @@ visited_records (r ∷ rs) = RecordList (r ∷ rs) ∷ flat_map visited_record (
 -- the extended part of a query or a response: its questions, answers, authority records and additional records
 unfoldable pub visited_lists : KeptLists → List Visited
 visited_lists l =
-    visited_questions l.question ++ visited_records l.answer ++ visited_records l.authority ++ visited_records l.additional
+    visited_questions l.question
+    ++ visited_records l.answer
+    ++ visited_records l.authority
+    ++ visited_records l.additional
 
 -- an item: its client's address, its signature, its query's name, and the extended parts of its query and its response
 unfoldable pub visited_item : KeptItem → List Visited

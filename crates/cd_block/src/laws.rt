@@ -1,6 +1,6 @@
-//! Laws of the format's numbers: the keys of RFC 8618 7.3, the bits of its hints and its flags, each as it stands there. Of
-//! collection parameters the first two keys have constants, the others have none. And the law that a block with its tables
-//! holds what the kept block does. A law is the contract of a function that does nothing, or only looks.
+//! Laws of the format's numbers: the keys of RFC 8618 7.3, the bits of its hints and its flags, each as it stands there.
+//! Of collection parameters the first two keys have constants, the others have none. And the law that a block with its
+//! tables holds what the kept block does. A law is the contract of a function that does nothing, or only looks.
 
 ghost use Rattle.std.specs.Prelude.{◌≡◌, [], ◌∷◌, Ok};
 ghost use Rattle.cd_block.specs.KeyTables.{preamble_keys, block_parameter_keys, storage_keys, hint_keys, collection_keys, block_keys, block_preamble_keys, statistics_keys, tables_keys, classtype_keys, signature_keys, question_keys, rr_keys, malformed_data_keys, item_keys, extended_keys, malformed_keys};
@@ -54,8 +54,8 @@ pub fn flags_are_those_of_the_format()
     ensures response { response_flags ≡ 256 ∷ 512 ∷ 1024 ∷ 2048 ∷ 4096 ∷ 8192 ∷ 16384 ∷ [] }
 {}
 
-/// A kept block is what its own block resolves to: no value is lost, exchanged or made equal to another one. It looks at each
-/// name, which tells that it is one, and changes nothing.
+/// A kept block is what its own block resolves to: no value is lost, exchanged or made equal to another one. It looks at
+/// each name, which tells that it is one, and changes nothing.
 pub fn what_is_indexed_resolves(kept: &KeptBlock)
     ensures { resolved (indexed kept.now) ≡ Ok kept.now }
 {

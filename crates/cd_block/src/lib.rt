@@ -5,6 +5,9 @@
 //! - A *block* has each value once, in one of nine tables, and its index there wherever it belongs: `Block`, `BlockItem`,
 //!   `BlockSig` and the other types named so. An index counts from 0.
 //!
+//! `resolve` gives the kept block of a block, or the first index that leads nowhere. What a block with its tables is, and that
+//! its kept block is what it resolves to, is stated in `laws`.
+//!
 //! A struct stands for a map of the format, and a field for the key of its name. A field that is an `Option` stands for a key
 //! that may be absent. Keys have constants in `keys`, the bits of hints in `hints`, and those
 //! of flags in `flags`. That each is the number of the format is stated in `laws`.
