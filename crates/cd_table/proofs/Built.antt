@@ -16,7 +16,7 @@ use Rattle.cd_table.specs.Growing.{After, each, put_item, put_malformed, no_tabl
 use Rattle.cd_table.proofs.Distinct.{fold_put}
 use Rattle.cd_table.proofs.Images.{fold_image, all_fold}
 use Rattle.cd_table.proofs.Places.{any_stays}
-use Rattle.cd_table.proofs.Tests.{bytes_decides, classtype_decides, question_decides, questions_decides, record_decides, records_decides, signature_decides, data_decides}
+use Rattle.cd_block.proofs.KeptEquality.{bytes_decides, classtype_decides, question_decides, questions_decides, record_decides, records_decides, signature_decides, data_decides}
 use Rattle.cd_table.proofs.Parts.{Has, Present, HasAddress, HasClasstype, HasBytes, HasQuestion, HasRecord, SignatureParts, QuestionParts, RecordParts, DataParts, QuestionsParts, RecordsParts, signature_agree, question_agree, record_agree, data_agree, question_list_agree, record_list_agree}
 use Rattle.cd_table.proofs.Sound.{Covered, Sound, AllSound, AllCovered, block_sound, kind_sound, sound_signature, sound_question_list, sound_question, sound_record_list, sound_record, sound_data}
 use Rattle.cd_table.proofs.Stepping.{grown, image, tables_path, grown_append, Leads, leads_on, one_by_one}
@@ -79,12 +79,13 @@ module _ (F : KeptTables) where
       let q = one_less (HasQuestion F) (as_question v) (used as_question vs) k.questions in
       let m = one_less (Has same_records F.rrlist) (as_record_list v) (used as_record_list vs) k.record_lists in
       let r = one_less (HasRecord F) (as_record v) (used as_record vs) k.records in
-      let d = one_less (Has same_data F.malformed_message_data) (as_data v) (used as_data vs) k.malformed_data in
-      (covered_by v a.0 c.0 b.0 s.0 l.0 q.0 m.0 r.0 d.0,
-        all_covered vs (record { addresses = a.1; classtypes = c.1; bytes = b.1; signatures = s.1; question_lists = l.1; questions = q.1; record_lists = m.1; records = r.1; malformed_data = d.1 }))
+      let d = one_less (Has same_data F.malformed_message_data) (as_data v) (used as_data vs) k.malformed_data in (
+        covered_by v a.0 c.0 b.0 s.0 l.0 q.0 m.0 r.0 d.0,
+        all_covered vs (record { addresses = a.1; classtypes = c.1; bytes = b.1; signatures = s.1; question_lists = l.1; questions = q.1; record_lists = m.1; records = r.1; malformed_data = d.1 }),
+      )
 
 -- each value that is gone through is in its table
-tables_cover : (vs : List Visited) → AllCovered (tables_of vs) vs
+pub tables_cover : (vs : List Visited) → AllCovered (tables_of vs) vs
 tables_cover vs =
     all_covered (tables_of vs) vs (record {
       addresses = table_has_all same_bytes bytes_decides (used as_address vs);
@@ -100,7 +101,7 @@ tables_cover vs =
 
 module _ (vs : List Visited) (sound : AllSound (tables_of vs) vs) where
   -- the parts of the values of the tables stand in the tables
-  tables_closed : Closed (tables_of vs)
+  pub tables_closed : Closed (tables_of vs)
   tables_closed =
       let F : KeptTables = tables_of vs in
       record {
@@ -118,15 +119,15 @@ module _ (vs : List Visited) (sound : AllSound (tables_of vs) vs) where
   tables_led =
       let F : KeptTables = tables_of vs in
       tables_path (grown F no_tables vs) (image F)
-        (fold_put same_bytes bytes_decides (used as_address vs))
-        (fold_put same_classtype classtype_decides (used as_classtype vs))
-        (fold_put same_bytes bytes_decides (used as_bytes vs))
-        (image_table (indexed_signature F) same_block_signature same_signature signature_decides (SignatureParts F) (signature_agree F) (used as_signature vs) (kind_sound F as_signature (SignatureParts F) (sound_signature F) vs sound))
-        (image_table (map (question_index F)) same_indexes same_questions questions_decides (QuestionsParts F) (question_list_agree F) (used as_question_list vs) (kind_sound F as_question_list (QuestionsParts F) (sound_question_list F) vs sound))
-        (image_table (indexed_question F) same_block_question same_question question_decides (QuestionParts F) (question_agree F) (used as_question vs) (kind_sound F as_question (QuestionParts F) (sound_question F) vs sound))
-        (image_table (map (record_index F)) same_indexes same_records records_decides (RecordsParts F) (record_list_agree F) (used as_record_list vs) (kind_sound F as_record_list (RecordsParts F) (sound_record_list F) vs sound))
-        (image_table (indexed_record F) same_block_record same_record record_decides (RecordParts F) (record_agree F) (used as_record vs) (kind_sound F as_record (RecordParts F) (sound_record F) vs sound))
-        (image_table (indexed_data F) same_block_data same_data data_decides (DataParts F) (data_agree F) (used as_data vs) (kind_sound F as_data (DataParts F) (sound_data F) vs sound))
+      (fold_put same_bytes bytes_decides (used as_address vs))
+      (fold_put same_classtype classtype_decides (used as_classtype vs))
+      (fold_put same_bytes bytes_decides (used as_bytes vs))
+      (image_table (indexed_signature F) same_block_signature same_signature signature_decides (SignatureParts F) (signature_agree F) (used as_signature vs) (kind_sound F as_signature (SignatureParts F) (sound_signature F) vs sound))
+      (image_table (map (question_index F)) same_indexes same_questions questions_decides (QuestionsParts F) (question_list_agree F) (used as_question_list vs) (kind_sound F as_question_list (QuestionsParts F) (sound_question_list F) vs sound))
+      (image_table (indexed_question F) same_block_question same_question question_decides (QuestionParts F) (question_agree F) (used as_question vs) (kind_sound F as_question (QuestionParts F) (sound_question F) vs sound))
+      (image_table (map (record_index F)) same_indexes same_records records_decides (RecordsParts F) (record_list_agree F) (used as_record_list vs) (kind_sound F as_record_list (RecordsParts F) (sound_record_list F) vs sound))
+      (image_table (indexed_record F) same_block_record same_record record_decides (RecordParts F) (record_agree F) (used as_record vs) (kind_sound F as_record (RecordParts F) (sound_record F) vs sound))
+      (image_table (indexed_data F) same_block_data same_data data_decides (DataParts F) (data_agree F) (used as_data vs) (kind_sound F as_data (DataParts F) (sound_data F) vs sound))
 
 -- a block with the tables F and these items and malformed messages
 same_block : (F : KeptTables) (b : KeptBlock) (items : List BlockItem) (malformed : List BlockMalformed) (t : Tables) → items ≡ map (indexed_item F) b.items → malformed ≡ map (indexed_malformed F) b.malformed → t ≡ image F → block_of b items malformed t ≡ indexed_in F b

@@ -88,4 +88,3 @@ module _ {A B : Type 0} (f : A → B) (eq : B → B → Bool) (same : A → A �
   fold_image [] xs all there = refl
   fold_image (u ∷ us) xs all there =
       ap (λ t. fold (put eq) t (map f us)) (put_image u all.0 xs there) ∙ fold_image us (put same xs u) all.1 (all_put same P u all.0 xs there)
-

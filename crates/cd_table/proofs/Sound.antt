@@ -73,7 +73,7 @@ module _ (F : KeptTables) where
   each_sound visit sound [] h = tt
   each_sound visit sound (x ∷ xs) h =
       all_both Sound (visit x) (flat_map visit xs) (sound x (all_left Covered (visit x) (flat_map visit xs) h))
-        (each_sound visit sound xs (all_right Covered (visit x) (flat_map visit xs) h))
+      (each_sound visit sound xs (all_right Covered (visit x) (flat_map visit xs) h))
 
   -- the parts of a signature that is gone through
   pub signature_parts : (s : KeptSig) → AllCovered (visited_signature s) → SignatureParts F s
@@ -108,10 +108,10 @@ module _ (F : KeptTables) where
       let front = all_left Covered (Signature s ∷ address ++ lead) options h in
       let first = all_left Covered (Signature s ∷ address) lead front in
       all_both Sound (Signature s ∷ address ++ lead) options
-        (all_both Sound (Signature s ∷ address) lead
-          (signature_parts s h, present_sound visited_address address_sound s.server_address first.1)
-          (present_sound visited_classtype classtype_sound s.classtype (all_right Covered (Signature s ∷ address) lead front)))
-        (present_sound visited_bytes bytes_sound s.opt_rdata (all_right Covered (Signature s ∷ address ++ lead) options h))
+      (all_both Sound (Signature s ∷ address) lead
+      (signature_parts s h, present_sound visited_address address_sound s.server_address first.1)
+      (present_sound visited_classtype classtype_sound s.classtype (all_right Covered (Signature s ∷ address) lead front)))
+      (present_sound visited_bytes bytes_sound s.opt_rdata (all_right Covered (Signature s ∷ address ++ lead) options h))
 
   -- the parts of a question that is gone through
   pub question_parts : (q : KeptQuestion) → AllCovered (visited_question q) → QuestionParts F q
@@ -129,9 +129,10 @@ module _ (F : KeptTables) where
   -- the questions of a list that is gone through
   pub questions_parts : (qs : List KeptQuestion) → AllCovered (flat_map visited_question qs) → QuestionsParts F qs
   questions_parts [] h = tt
-  questions_parts (q ∷ qs) h =
-      (question_there q (all_left Covered (visited_question q) (flat_map visited_question qs) h),
-        questions_parts qs (all_right Covered (visited_question q) (flat_map visited_question qs) h))
+  questions_parts (q ∷ qs) h = (
+    question_there q (all_left Covered (visited_question q) (flat_map visited_question qs) h),
+    questions_parts qs (all_right Covered (visited_question q) (flat_map visited_question qs) h),
+  )
 
   questions_sound : (qs : List KeptQuestion) → AllCovered (visited_questions qs) → AllSound (visited_questions qs)
   unfolding visited_questions
@@ -158,9 +159,10 @@ module _ (F : KeptTables) where
   -- the records of a list that is gone through
   pub records_parts : (rs : List KeptRr) → AllCovered (flat_map visited_record rs) → RecordsParts F rs
   records_parts [] h = tt
-  records_parts (r ∷ rs) h =
-      (record_there r (all_left Covered (visited_record r) (flat_map visited_record rs) h),
-        records_parts rs (all_right Covered (visited_record r) (flat_map visited_record rs) h))
+  records_parts (r ∷ rs) h = (
+    record_there r (all_left Covered (visited_record r) (flat_map visited_record rs) h),
+    records_parts rs (all_right Covered (visited_record r) (flat_map visited_record rs) h),
+  )
 
   records_sound : (rs : List KeptRr) → AllCovered (visited_records rs) → AllSound (visited_records rs)
   unfolding visited_records
@@ -177,10 +179,10 @@ module _ (F : KeptTables) where
       let front = all_left Covered ((a ++ b) ++ c) d h in
       let first = all_left Covered (a ++ b) c front in
       all_both Sound ((a ++ b) ++ c) d
-        (all_both Sound (a ++ b) c
-          (all_both Sound a b (questions_sound l.question (all_left Covered a b first)) (records_sound l.answer (all_right Covered a b first)))
-          (records_sound l.authority (all_right Covered (a ++ b) c front)))
-        (records_sound l.additional (all_right Covered ((a ++ b) ++ c) d h))
+      (all_both Sound (a ++ b) c
+      (all_both Sound a b (questions_sound l.question (all_left Covered a b first)) (records_sound l.answer (all_right Covered a b first)))
+      (records_sound l.authority (all_right Covered (a ++ b) c front)))
+      (records_sound l.additional (all_right Covered ((a ++ b) ++ c) d h))
 
   item_sound : (i : KeptItem) → AllCovered (visited_item i) → AllSound (visited_item i)
   unfolding visited_item
@@ -194,14 +196,14 @@ module _ (F : KeptTables) where
       let h3 = all_left Covered ((a ++ b) ++ c) d h4 in
       let h2 = all_left Covered (a ++ b) c h3 in
       all_both Sound (((a ++ b) ++ c) ++ d) e
-        (all_both Sound ((a ++ b) ++ c) d
-          (all_both Sound (a ++ b) c
-            (all_both Sound a b
-              (present_sound visited_address address_sound i.client_address (all_left Covered a b h2))
-              (present_sound visited_signature signature_sound i.signature (all_right Covered a b h2)))
-            (present_sound visited_bytes bytes_sound i.query_name (all_right Covered (a ++ b) c h3)))
-          (lists_sound i.query_extended (all_right Covered ((a ++ b) ++ c) d h4)))
-        (lists_sound i.response_extended (all_right Covered (((a ++ b) ++ c) ++ d) e h))
+      (all_both Sound ((a ++ b) ++ c) d
+      (all_both Sound (a ++ b) c
+      (all_both Sound a b
+      (present_sound visited_address address_sound i.client_address (all_left Covered a b h2))
+      (present_sound visited_signature signature_sound i.signature (all_right Covered a b h2)))
+      (present_sound visited_bytes bytes_sound i.query_name (all_right Covered (a ++ b) c h3)))
+      (lists_sound i.query_extended (all_right Covered ((a ++ b) ++ c) d h4)))
+      (lists_sound i.response_extended (all_right Covered (((a ++ b) ++ c) ++ d) e h))
 
   -- the part of data that is gone through
   pub data_parts : (d : KeptData) → AllCovered (visited_data d) → DataParts F d
@@ -218,8 +220,8 @@ module _ (F : KeptTables) where
       let a : List Visited = where_present visited_address m.client_address in
       let b : List Visited = where_present visited_data m.message_data in
       all_both Sound a b
-        (present_sound visited_address address_sound m.client_address (all_left Covered a b h))
-        (present_sound visited_data data_sound m.message_data (all_right Covered a b h))
+      (present_sound visited_address address_sound m.client_address (all_left Covered a b h))
+      (present_sound visited_data data_sound m.message_data (all_right Covered a b h))
 
   -- where each value of a block is covered, the parts of each are
   pub block_sound : (b : KeptBlock) → AllCovered (visited b) → AllSound (visited b)
@@ -228,8 +230,8 @@ module _ (F : KeptTables) where
       let items : List Visited = flat_map visited_item b.items in
       let malformed : List Visited = flat_map visited_malformed b.malformed in
       all_both Sound items malformed
-        (each_sound visited_item item_sound b.items (all_left Covered items malformed h))
-        (each_sound visited_malformed malformed_sound b.malformed (all_right Covered items malformed h))
+      (each_sound visited_item item_sound b.items (all_left Covered items malformed h))
+      (each_sound visited_malformed malformed_sound b.malformed (all_right Covered items malformed h))
 
   one_more : {T : Type 0} (P : T → Type 0) (o : Option T) (xs : List T) → Present P o → AllByRecursion P xs → AllByRecursion P (cons_option o xs)
   one_more P None xs p h = h

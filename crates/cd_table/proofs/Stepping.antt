@@ -92,15 +92,15 @@ module _ (F : KeptTables) where
   unfolding grown
   grown_append t vs ws =
       tables_path (grown t (vs ++ ws)) (grown (grown t vs) ws)
-        (kind_put-append same_bytes as_address t.ip_address vs ws)
-        (kind_put-append same_classtype as_classtype t.classtype vs ws)
-        (kind_put-append same_bytes as_bytes t.name_rdata vs ws)
-        (image_put-append same_block_signature (indexed_signature F) as_signature t.qr_sig vs ws)
-        (image_put-append same_indexes (map (question_index F)) as_question_list t.qlist vs ws)
-        (image_put-append same_block_question (indexed_question F) as_question t.qrr vs ws)
-        (image_put-append same_indexes (map (record_index F)) as_record_list t.rrlist vs ws)
-        (image_put-append same_block_record (indexed_record F) as_record t.rr vs ws)
-        (image_put-append same_block_data (indexed_data F) as_data t.malformed_message_data vs ws)
+      (kind_put-append same_bytes as_address t.ip_address vs ws)
+      (kind_put-append same_classtype as_classtype t.classtype vs ws)
+      (kind_put-append same_bytes as_bytes t.name_rdata vs ws)
+      (image_put-append same_block_signature (indexed_signature F) as_signature t.qr_sig vs ws)
+      (image_put-append same_indexes (map (question_index F)) as_question_list t.qlist vs ws)
+      (image_put-append same_block_question (indexed_question F) as_question t.qrr vs ws)
+      (image_put-append same_indexes (map (record_index F)) as_record_list t.rrlist vs ws)
+      (image_put-append same_block_record (indexed_record F) as_record t.rr vs ws)
+      (image_put-append same_block_data (indexed_data F) as_data t.malformed_message_data vs ws)
 
   -- from these tables, going through these values leads to the tables at the end
   pub record Leads (t : Tables) (vs : List Visited) : Type 0 where
@@ -158,7 +158,7 @@ module _ (F : KeptTables) where
   one_by_one step visit index goes [] = gives []
   one_by_one {A} {B} step visit index goes (x ∷ xs) =
       in_turn (step x) (λ v. each step xs >>= (λ vs. give (v ∷ vs))) (visit x) (flat_map visit xs) (index x) (index x ∷ map index xs) (goes x)
-        (then_gives (each step xs) (λ vs. index x ∷ vs) (flat_map visit xs) (map index xs) (one_by_one step visit index goes xs))
+      (then_gives (each step xs) (λ vs. index x ∷ vs) (flat_map visit xs) (map index xs) (one_by_one step visit index goes xs))
 
 -- a value's place as it is put is its index at the end
 pub index_at_end : {T : Type 0} (same : T → T → Bool) (xs us table : List T) (x : T) → same x x ≡ true → fold (put same) (put same xs x) us ≡ table → position_or_len (same x) xs ≡ index_in same table x

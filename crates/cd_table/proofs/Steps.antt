@@ -19,7 +19,7 @@ use Rattle.cd_table.specs.declared.tables.Tables.{Tables}
 use Rattle.cd_table.specs.Interning.{put}
 use Rattle.cd_table.specs.Equality.{same_indexes, same_block_question, same_block_record, same_block_signature, same_block_data}
 use Rattle.cd_table.specs.Growing.{After, Growing, ◌>>=◌, give, if_present, each, put_address, put_classtype, put_bytes, put_block_signature, put_block_question, put_question_indexes, put_block_record, put_record_indexes, put_block_data, signature_at, put_signature, put_question, put_questions, put_record, put_records, put_lists, item_at, put_item, data_at, put_data, malformed_at, put_malformed}
-use Rattle.cd_table.proofs.Tests.{bytes_decides, classtype_decides, question_decides, questions_decides, record_decides, records_decides, signature_decides, data_decides}
+use Rattle.cd_block.proofs.KeptEquality.{bytes_decides, classtype_decides, question_decides, questions_decides, record_decides, records_decides, signature_decides, data_decides}
 use Rattle.cd_table.proofs.Parts.{SignatureParts, QuestionParts, RecordParts, DataParts, QuestionsParts, RecordsParts, signature_agree, question_agree, record_agree, data_agree, question_list_agree, record_list_agree}
 use Rattle.cd_table.proofs.Sound.{Covered, all_left, all_right, all_both, signature_parts, question_parts, questions_parts, record_parts, records_parts, data_parts}
 use Rattle.cd_table.proofs.Stepping.{grown, image, grown_append, Leads, Goes, gives, in_turn, then_gives, regrouped, reordered, optional, one_by_one, index_at_end, image_at_end}
@@ -113,13 +113,13 @@ module _ (F : KeptTables) (closed : Closed F) where
       let z : Option ℕ = option_map (bytes_index F) s.opt_rdata in
       let i : ℕ = signature_index F s in
       let last = in_turn F (if_present put_bytes s.opt_rdata) (λ opt_rdata. put_block_signature (signature_at s x y opt_rdata)) b (Signature s ∷ []) z i
-        (optional F put_bytes visited_bytes (bytes_index F) (bytes_goes F) s.opt_rdata) (signature_put s parts) in
+      (optional F put_bytes visited_bytes (bytes_index F) (bytes_goes F) s.opt_rdata) (signature_put s parts) in
       let middle = in_turn F (if_present put_classtype s.classtype) (λ classtype. if_present put_bytes s.opt_rdata >>= (λ opt_rdata. put_block_signature (signature_at s x classtype opt_rdata))) c (b ++ Signature s ∷ []) y i
-        (optional F put_classtype visited_classtype (classtype_index F) (classtype_goes F) s.classtype) last in
+      (optional F put_classtype visited_classtype (classtype_index F) (classtype_goes F) s.classtype) last in
       let all = in_turn F (if_present put_address s.server_address) (λ server_address. if_present put_classtype s.classtype >>= (λ classtype. if_present put_bytes s.opt_rdata >>= (λ opt_rdata. put_block_signature (signature_at s server_address classtype opt_rdata)))) a (c ++ (b ++ Signature s ∷ [])) x i
-        (optional F put_address visited_address (address_index F) (address_goes F) s.server_address) middle in
+      (optional F put_address visited_address (address_index F) (address_goes F) s.server_address) middle in
       reordered F (put_signature s) (a ++ (c ++ (b ++ Signature s ∷ []))) (Signature s ∷ a ++ c ++ b) i
-        (signature_order s s.server_address s.classtype s.opt_rdata) (signature_covers s s.server_address s.classtype s.opt_rdata) all
+      (signature_order s s.server_address s.classtype s.opt_rdata) (signature_covers s s.server_address s.classtype s.opt_rdata) all
 
   pub signature_goes : (s : KeptSig) → Goes F (put_signature s) (visited_signature s) (signature_index F s)
   signature_goes s t ws l =
@@ -136,11 +136,11 @@ module _ (F : KeptTables) (closed : Closed F) where
       let y : ℕ = classtype_index F (q.rtype, q.rclass) in
       let i : ℕ = question_index F q in
       let last = in_turn F (put_classtype (q.rtype, q.rclass)) (λ classtype. put_block_question (record { name = x; classtype = classtype })) (ClassType (q.rtype, q.rclass) ∷ []) (Question q ∷ []) y i
-        (classtype_goes F (q.rtype, q.rclass)) (question_put q parts) in
+      (classtype_goes F (q.rtype, q.rclass)) (question_put q parts) in
       let all = in_turn F (put_bytes q.name) (λ name. put_classtype (q.rtype, q.rclass) >>= (λ classtype. put_block_question (record { name = name; classtype = classtype }))) (NameOrRdata q.name ∷ []) (ClassType (q.rtype, q.rclass) ∷ Question q ∷ []) x i
-        (bytes_goes F q.name) last in
+      (bytes_goes F q.name) last in
       reordered F (put_question q) (NameOrRdata q.name ∷ ClassType (q.rtype, q.rclass) ∷ Question q ∷ []) (Question q ∷ NameOrRdata q.name ∷ ClassType (q.rtype, q.rclass) ∷ []) i
-        (question_order q) (λ h. (h.1.0, (h.1.1.0, (h.0, tt)))) all
+      (question_order q) (λ h. (h.1.0, (h.1.1.0, (h.0, tt)))) all
 
   pub question_goes : (q : KeptQuestion) → Goes F (put_question q) (visited_question q) (question_index F q)
   question_goes q t ws l =
@@ -164,13 +164,13 @@ module _ (F : KeptTables) (closed : Closed F) where
       let z : Option ℕ = option_map (bytes_index F) r.rdata in
       let i : ℕ = record_index F r in
       let last = in_turn F (if_present put_bytes r.rdata) (λ rdata. put_block_record (record { name = x; classtype = y; ttl = r.ttl; rdata = rdata })) b (Record r ∷ []) z i
-        (optional F put_bytes visited_bytes (bytes_index F) (bytes_goes F) r.rdata) (record_put r parts) in
+      (optional F put_bytes visited_bytes (bytes_index F) (bytes_goes F) r.rdata) (record_put r parts) in
       let middle = in_turn F (put_classtype (r.rtype, r.rclass)) (λ classtype. if_present put_bytes r.rdata >>= (λ rdata. put_block_record (record { name = x; classtype = classtype; ttl = r.ttl; rdata = rdata }))) (ClassType (r.rtype, r.rclass) ∷ []) (b ++ Record r ∷ []) y i
-        (classtype_goes F (r.rtype, r.rclass)) last in
+      (classtype_goes F (r.rtype, r.rclass)) last in
       let all = in_turn F (put_bytes r.name) (λ name. put_classtype (r.rtype, r.rclass) >>= (λ classtype. if_present put_bytes r.rdata >>= (λ rdata. put_block_record (record { name = name; classtype = classtype; ttl = r.ttl; rdata = rdata })))) (NameOrRdata r.name ∷ []) (ClassType (r.rtype, r.rclass) ∷ (b ++ Record r ∷ [])) x i
-        (bytes_goes F r.name) middle in
+      (bytes_goes F r.name) middle in
       reordered F (put_record r) (NameOrRdata r.name ∷ ClassType (r.rtype, r.rclass) ∷ (b ++ Record r ∷ [])) (Record r ∷ NameOrRdata r.name ∷ ClassType (r.rtype, r.rclass) ∷ b) i
-        (record_order r r.rdata) (record_covers r r.rdata) all
+      (record_order r r.rdata) (record_covers r r.rdata) all
 
   pub record_goes : (r : KeptRr) → Goes F (put_record r) (visited_record r) (record_index F r)
   record_goes r t ws l =
@@ -204,9 +204,9 @@ module _ (F : KeptTables) (closed : Closed F) where
       let vs : List Visited = flat_map visited_question (q ∷ qs) in
       let parts = questions_parts F (q ∷ qs) (all_left (Covered F) vs ws l.covered.1) in
       let all = in_turn F (each put_question (q ∷ qs)) (λ indexes. put_question_indexes indexes >>= (λ k. give (Some k))) vs (QuestionList (q ∷ qs) ∷ []) (map (question_index F) (q ∷ qs)) (question_list_index F (q ∷ qs))
-        (one_by_one F put_question visited_question (question_index F) question_goes (q ∷ qs)) (question_list_put q qs parts) in
+      (one_by_one F put_question visited_question (question_index F) question_goes (q ∷ qs)) (question_list_put q qs parts) in
       reordered F (put_questions (q ∷ qs)) (vs ++ QuestionList (q ∷ qs) ∷ []) (QuestionList (q ∷ qs) ∷ vs) (question_list_index F (q ∷ qs))
-        (question_list_order (q ∷ qs) vs (no_question_lists (q ∷ qs))) (last_covered (QuestionList (q ∷ qs)) vs) all t ws l
+      (question_list_order (q ∷ qs) vs (no_question_lists (q ∷ qs))) (last_covered (QuestionList (q ∷ qs)) vs) all t ws l
 
   no_rdata_list : (b : Option (List ℕ)) (vs : List Visited) → used as_record_list (where_present visited_bytes b ++ vs) ≡ used as_record_list vs
   no_rdata_list None vs = refl
@@ -234,9 +234,9 @@ module _ (F : KeptTables) (closed : Closed F) where
       let vs : List Visited = flat_map visited_record (r ∷ rs) in
       let parts = records_parts F (r ∷ rs) (all_left (Covered F) vs ws l.covered.1) in
       let all = in_turn F (each put_record (r ∷ rs)) (λ indexes. put_record_indexes indexes >>= (λ k. give (Some k))) vs (RecordList (r ∷ rs) ∷ []) (map (record_index F) (r ∷ rs)) (record_list_index F (r ∷ rs))
-        (one_by_one F put_record visited_record (record_index F) record_goes (r ∷ rs)) (record_list_put r rs parts) in
+      (one_by_one F put_record visited_record (record_index F) record_goes (r ∷ rs)) (record_list_put r rs parts) in
       reordered F (put_records (r ∷ rs)) (vs ++ RecordList (r ∷ rs) ∷ []) (RecordList (r ∷ rs) ∷ vs) (record_list_index F (r ∷ rs))
-        (record_list_order (r ∷ rs) vs (no_record_lists (r ∷ rs))) (last_covered (RecordList (r ∷ rs)) vs) all t ws l
+      (record_list_order (r ∷ rs) vs (no_record_lists (r ∷ rs))) (last_covered (RecordList (r ∷ rs)) vs) all t ws l
 
   pub lists_go : (l : KeptLists) → Goes F (put_lists l) (visited_lists l) (indexed_lists F l)
   unfolding put_lists visited_lists indexed_lists
@@ -288,9 +288,9 @@ module _ (F : KeptTables) (closed : Closed F) where
       let a : List Visited = where_present visited_address d.server_address in
       let x : Option ℕ = option_map (address_index F) d.server_address in
       let all = in_turn F (if_present put_address d.server_address) (λ server_address. put_block_data (data_at d server_address)) a (MalformedData d ∷ []) x (data_index F d)
-        (optional F put_address visited_address (address_index F) (address_goes F) d.server_address) (data_put d parts) in
+      (optional F put_address visited_address (address_index F) (address_goes F) d.server_address) (data_put d parts) in
       reordered F (put_data d) (a ++ MalformedData d ∷ []) (MalformedData d ∷ a) (data_index F d)
-        (data_order d d.server_address) (last_covered (MalformedData d) a) all
+      (data_order d d.server_address) (last_covered (MalformedData d) a) all
 
   pub data_goes : (d : KeptData) → Goes F (put_data d) (visited_data d) (data_index F d)
   data_goes d t ws l =
