@@ -1,15 +1,13 @@
 -- A kept block is what its own block resolves to.
-use Rattle.std.proofs.Common.{◌≡◌, List, ◌++◌, map, Ok, refl}
+use Rattle.std.proofs.Common.{◌≡◌, List, map, Ok, refl}
 use Rattle.std.specs.List.{flat_map}
-use Rattle.cd_block.specs.declared.kept.KeptItem.{KeptItem}
-use Rattle.cd_block.specs.declared.kept.KeptMalformed.{KeptMalformed}
 use Rattle.cd_block.specs.declared.kept.KeptBlock.{KeptBlock}
 use Rattle.cd_block.specs.declared.block.Block.{Block}
 use Rattle.cd_block.specs.Traversal.{Visited, visited, visited_item, visited_malformed}
 use Rattle.cd_block.specs.Tables.{KeptTables, tables_of, indexed_in, indexed, indexed_item, indexed_malformed}
-use Rattle.cd_block.specs.Resolving.{◌>>=◌, each, resolved, resolved_item, resolved_malformed}
+use Rattle.cd_block.specs.Resolving.{each, resolved, resolved_item, resolved_malformed}
 use Rattle.cd_block.specs.Naming.{ItemNamed, BlockNamed}
-use Rattle.cd_block.proofs.Among.{Among, all_among, among_first, among_second, among_each}
+use Rattle.cd_block.proofs.Among.{all_among, among_first, among_second, among_each}
 use Rattle.cd_block.proofs.IndexingTables.{HasTables, each_resolves}
 use Rattle.cd_block.proofs.IndexingLists.{item_resolves, malformed_resolves}
 

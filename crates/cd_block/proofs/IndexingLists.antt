@@ -1,7 +1,6 @@
 -- In a block that has the tables of some values, the lists of an extended part and the parts of an item resolve to themselves.
 use Rattle.std.proofs.Common.{◌≡◌, ℕ, List, [], ◌∷◌, ◌++◌, map, Option, Some, None, Ok, refl, inl, inr}
 use Rattle.std.specs.Prelude.{IfSome}
-use Rattle.std.specs.List.{flat_map}
 use Rattle.std.specs.Option.{option_map}
 use Rattle.cd_name.specs.Names.{IsName}
 use Rattle.cd_block.specs.declared.keys.TheConstants as key
@@ -15,12 +14,12 @@ use Rattle.cd_block.specs.declared.kept.KeptMalformed.{KeptMalformed}
 use Rattle.cd_block.specs.declared.block.Block.{Block}
 use Rattle.cd_block.specs.Equality.{same_questions, same_records}
 use Rattle.cd_block.specs.Traversal.{Visited, NameOrRdata, QuestionList, RecordList, used, as_question_list, as_record_list, where_present, visited_address, visited_bytes, visited_signature, visited_question, visited_questions, visited_record, visited_records, visited_lists, visited_data, visited_item, visited_malformed}
-use Rattle.cd_block.specs.Tables.{index_in, KeptTables, tables_of, address_index, bytes_index, signature_index, question_index, record_index, data_index, question_list_index, record_list_index, indexed_lists, indexed_item, indexed_malformed}
-use Rattle.cd_block.specs.Resolving.{◌>>=◌, if_present, each, entry, resolved_name, resolved_signature, resolved_question, resolved_questions, resolved_record, resolved_records, resolved_lists, resolved_data, resolved_item, resolved_malformed}
+use Rattle.cd_block.specs.Tables.{index_in, KeptTables, tables_of, bytes_index, signature_index, question_index, record_index, data_index, question_list_index, record_list_index, indexed_lists, indexed_item, indexed_malformed}
+use Rattle.cd_block.specs.Resolving.{if_present, each, entry, resolved_name, resolved_signature, resolved_question, resolved_questions, resolved_record, resolved_records, resolved_lists, resolved_data, resolved_item, resolved_malformed}
 use Rattle.cd_block.specs.Naming.{QuestionsNamed, RecordsNamed, ListsNamed, ItemNamed}
 use Rattle.cd_block.proofs.KeptEquality.{questions_decides, records_decides}
-use Rattle.cd_block.proofs.Among.{Among, all_among, among_first, among_second, among_each, among_kind, found_image}
-use Rattle.cd_block.proofs.IndexingTables.{Covers, HasTables, entry_is, each_resolves, present_resolves, name_resolves, addresses_resolve, signature_resolves, question_resolves, record_resolves, data_resolves}
+use Rattle.cd_block.proofs.Among.{all_among, among_first, among_second, among_each, among_kind, found_image}
+use Rattle.cd_block.proofs.IndexingTables.{Covers, HasTables, entry_is, each_resolves, name_resolves, addresses_resolve, signature_resolves, question_resolves, record_resolves, data_resolves}
 
 module _ (values : List Visited) (b : Block) (has : HasTables values b) where
   abbrev t : KeptTables

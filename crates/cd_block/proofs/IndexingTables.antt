@@ -1,7 +1,7 @@
 -- In a block that has the tables of some values, the index of each of these values resolves to it.
-use Rattle.std.proofs.Common.{◌≡◌, ◌≤◌, ℕ, Bool, true, List, [], ◌∷◌, ◌++◌, length, map, Option, Some, None, Result, Ok, Err, refl, ap, inl, inr, nat_le, ◌&&◌, if◌then◌else◌, arith}
+use Rattle.std.proofs.Common.{◌≡◌, ◌≤◌, ℕ, true, List, [], ◌∷◌, ◌++◌, length, map, Option, Some, None, Ok, refl, inl, inr, arith}
 use Rattle.std.specs.Prelude.{slice_get}
-use Rattle.std.specs.Option.{option_map, ok_or}
+use Rattle.std.specs.Option.{option_map}
 use Rattle.std.proofs.lemmas.Bool.Decides.{nat_tests}
 use Rattle.cd_name.specs.Names.{IsName, are_labels_and_root}
 use Rattle.cd_block.specs.declared.keys.TheConstants as key
@@ -10,11 +10,11 @@ use Rattle.cd_block.specs.declared.kept.KeptRr.{KeptRr}
 use Rattle.cd_block.specs.declared.kept.KeptSig.{KeptSig}
 use Rattle.cd_block.specs.declared.kept.KeptData.{KeptData}
 use Rattle.cd_block.specs.declared.block.Block.{Block}
-use Rattle.cd_block.specs.Equality.{same_bytes, same_classtype, same_question, same_questions, same_record, same_records, same_signature, same_data}
+use Rattle.cd_block.specs.Equality.{same_bytes, same_classtype, same_question, same_record, same_signature, same_data}
 use Rattle.cd_block.specs.Traversal.{Visited, Address, ClassType, NameOrRdata, Signature, Question, Record, MalformedData, used, as_address, as_classtype, as_bytes, as_signature, as_question, as_record, as_data, where_present, visited_address, visited_classtype, visited_bytes, visited_signature, visited_question, visited_record, visited_data}
-use Rattle.cd_block.specs.Tables.{table_of, index_in, KeptTables, tables_of, address_index, classtype_index, bytes_index, signature_index, question_index, record_index, data_index, indexed_question, indexed_record, indexed_signature, indexed_data}
-use Rattle.cd_block.specs.Resolving.{Resolving, NotName, PastTable, ◌>>=◌, if_present, each, entry, is_name, name_of, resolved_address, resolved_classtype, resolved_bytes, resolved_name, resolved_signature, resolved_question, resolved_record, resolved_data}
-use Rattle.cd_block.proofs.KeptEquality.{bytes_decides, classtype_decides, question_decides, questions_decides, record_decides, records_decides, signature_decides, data_decides}
+use Rattle.cd_block.specs.Tables.{KeptTables, tables_of, address_index, classtype_index, bytes_index, signature_index, question_index, record_index, data_index, indexed_question, indexed_record, indexed_signature, indexed_data}
+use Rattle.cd_block.specs.Resolving.{Resolving, if_present, each, entry, name_of, resolved_address, resolved_classtype, resolved_bytes, resolved_name, resolved_signature, resolved_question, resolved_record, resolved_data}
+use Rattle.cd_block.proofs.KeptEquality.{bytes_decides, classtype_decides, question_decides, record_decides, signature_decides, data_decides}
 use Rattle.cd_block.proofs.Among.{Among, among_first, among_second, among_kind, found, found_image}
 
 -- each of these values is among the others

@@ -1,4 +1,5 @@
 mod EachInTurn
+mod EachNamed
 pub mod KeptEquality
 pub mod Among
 pub mod IndexingTables

@@ -1,15 +1,16 @@
 //! Laws of the format's numbers: the keys of RFC 8618 7.3, the bits of its hints and its flags, each as it stands there. Of
 //! collection parameters the first two keys have constants, the others have none. And the law that a block with its tables
-//! holds what the kept block does. A law is the contract of a function that does nothing.
+//! holds what the kept block does. A law is the contract of a function that does nothing, or only looks.
 
 ghost use Rattle.std.specs.Prelude.{◌≡◌, [], ◌∷◌, Ok};
 ghost use Rattle.cd_block.specs.KeyTables.{preamble_keys, block_parameter_keys, storage_keys, hint_keys, collection_keys, block_keys, block_preamble_keys, statistics_keys, tables_keys, classtype_keys, signature_keys, question_keys, rr_keys, malformed_data_keys, item_keys, extended_keys, malformed_keys};
 ghost use Rattle.cd_block.specs.HintTables.{item_hints, signature_hints, rr_hints, other_hints};
 ghost use Rattle.cd_block.specs.FlagTables.{storage_flags, transport_flags, signature_flags, query_flags, response_flags};
-ghost use Rattle.cd_block.specs.declared.kept.KeptBlock.{KeptBlock};
-ghost use Rattle.cd_block.specs.Naming.{BlockNamed};
 ghost use Rattle.cd_block.specs.Tables.{indexed};
 ghost use Rattle.cd_block.specs.Resolving.{resolved};
+
+use crate::kept::KeptBlock;
+use crate::naming::names_are_names;
 
 /// The keys of each map of a file (RFC 8618 7.3), but of collection parameters only the first two.
 pub fn keys_are_those_of_the_format()
@@ -53,8 +54,10 @@ pub fn flags_are_those_of_the_format()
     ensures response { response_flags ≡ 256 ∷ 512 ∷ 1024 ∷ 2048 ∷ 4096 ∷ 8192 ∷ 16384 ∷ [] }
 {}
 
-/// A kept block is what its own block resolves to: no value is lost, exchanged or made equal to another one. Its names are
-/// names, as `Name` keeps them.
-pub fn what_is_indexed_resolves()
-    ensures { (kept : KeptBlock) → BlockNamed kept → resolved (indexed kept) ≡ Ok kept }
-{}
+/// A kept block is what its own block resolves to: no value is lost, exchanged or made equal to another one. It looks at each
+/// name, which tells that it is one, and changes nothing.
+pub fn what_is_indexed_resolves(kept: &KeptBlock)
+    ensures { resolved (indexed kept.now) ≡ Ok kept.now }
+{
+    names_are_names(kept);
+}

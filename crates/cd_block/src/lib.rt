@@ -34,6 +34,7 @@ pub mod hints;
 mod kept;
 pub mod keys;
 pub mod laws;
+mod naming;
 mod params;
 mod resolving;
 mod stamp;
@@ -46,6 +47,7 @@ pub use hints::Hints;
 pub use kept::{
     KeptBlock, KeptData, KeptItem, KeptLists, KeptMalformed, KeptQuestion, KeptRr, KeptSig,
 };
+pub use naming::names_are_names;
 pub use params::Params;
 pub use resolving::{ResolveFault, resolve};
 pub use stamp::Stamp;
