@@ -57,8 +57,8 @@ apart_table same decides (u ∷ us) =
 module _ {A B : Type 0} (f : A → B) (eq : B → B → Bool) (same : A → A → Bool) (decides : (a b : A) → Decides (same a b) (a ≡ b)) (P : A → Type 0) (agree : (a b : A) → P a → P b → eq (f a) (f b) ≡ same a b) where
   -- different values have different images
   images_differ : (x y : A) → P x → P y → x ≢ y → f x ≢ f y
-  images_differ x y px py no e =
-      no ((decides x y).0 (sym (agree x y px py) ∙ ap (eq (f x)) (sym e) ∙ agree x x px px ∙ (decides x x).1 refl))
+  images_differ x y px py other e =
+      other ((decides x y).0 (sym (agree x y px py) ∙ ap (eq (f x)) (sym e) ∙ agree x x px px ∙ (decides x x).1 refl))
 
   one_image : (x : A) → P x → (xs : List A) → AllByRecursion P xs → AllByRecursion (λ y. x ≢ y) xs → AllByRecursion (λ z. f x ≢ z) (map f xs)
   one_image x px [] all h = tt
