@@ -16,7 +16,7 @@ use Rattle.cd_table.specs.Growing.{After, each, put_item, put_malformed, no_tabl
 use Rattle.cd_table.proofs.Distinct.{fold_put}
 use Rattle.cd_table.proofs.Images.{fold_image, all_fold}
 use Rattle.cd_table.proofs.Places.{any_stays}
-use Rattle.cd_table.proofs.Tests.{bytes_decides, classtype_decides, question_decides, questions_decides, record_decides, records_decides, signature_decides, data_decides}
+use Rattle.cd_block.proofs.KeptEquality.{bytes_decides, classtype_decides, question_decides, questions_decides, record_decides, records_decides, signature_decides, data_decides}
 use Rattle.cd_table.proofs.Parts.{Has, Present, HasAddress, HasClasstype, HasBytes, HasQuestion, HasRecord, SignatureParts, QuestionParts, RecordParts, DataParts, QuestionsParts, RecordsParts, signature_agree, question_agree, record_agree, data_agree, question_list_agree, record_list_agree}
 use Rattle.cd_table.proofs.Sound.{Covered, Sound, AllSound, AllCovered, block_sound, kind_sound, sound_signature, sound_question_list, sound_question, sound_record_list, sound_record, sound_data}
 use Rattle.cd_table.proofs.Stepping.{grown, image, tables_path, grown_append, Leads, leads_on, one_by_one}
@@ -85,7 +85,7 @@ module _ (F : KeptTables) where
       )
 
 -- each value that is gone through is in its table
-tables_cover : (vs : List Visited) → AllCovered (tables_of vs) vs
+pub tables_cover : (vs : List Visited) → AllCovered (tables_of vs) vs
 tables_cover vs =
     all_covered (tables_of vs) vs (record {
       addresses = table_has_all same_bytes bytes_decides (used as_address vs);
@@ -101,7 +101,7 @@ tables_cover vs =
 
 module _ (vs : List Visited) (sound : AllSound (tables_of vs) vs) where
   -- the parts of the values of the tables stand in the tables
-  tables_closed : Closed (tables_of vs)
+  pub tables_closed : Closed (tables_of vs)
   tables_closed =
       let F : KeptTables = tables_of vs in
       record {

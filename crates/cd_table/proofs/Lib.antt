@@ -1,10 +1,10 @@
 pub mod Images
 pub mod Distinct
 pub mod Places
-pub mod Tests
 pub mod Parts
 pub mod Sound
 pub mod Stepping
 pub mod Steps
 pub mod Loops
 pub mod Built
+pub mod Once

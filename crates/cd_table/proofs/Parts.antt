@@ -11,7 +11,7 @@ use Rattle.cd_block.specs.Equality.{same_bytes, same_classtype, same_question, s
 use Rattle.cd_block.specs.Tables.{KeptTables, index_in, address_index, classtype_index, bytes_index, question_index, record_index, indexed_question, indexed_record, indexed_signature, indexed_data}
 use Rattle.cd_table.specs.Equality.{same_indexes, same_block_question, same_block_record, same_block_signature, same_block_data}
 use Rattle.cd_table.proofs.Places.{index_is_place, same_places}
-use Rattle.cd_table.proofs.Tests.{bytes_decides, classtype_decides, question_decides, record_decides}
+use Rattle.cd_block.proofs.KeptEquality.{bytes_decides, classtype_decides, question_decides, record_decides}
 
 -- a value that a table has
 abbrev pub Has : {T : Type 0} → (T → T → Bool) → List T → T → Type 0

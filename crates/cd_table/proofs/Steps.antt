@@ -19,7 +19,7 @@ use Rattle.cd_table.specs.declared.tables.Tables.{Tables}
 use Rattle.cd_table.specs.Interning.{put}
 use Rattle.cd_table.specs.Equality.{same_indexes, same_block_question, same_block_record, same_block_signature, same_block_data}
 use Rattle.cd_table.specs.Growing.{After, Growing, ◌>>=◌, give, if_present, each, put_address, put_classtype, put_bytes, put_block_signature, put_block_question, put_question_indexes, put_block_record, put_record_indexes, put_block_data, signature_at, put_signature, put_question, put_questions, put_record, put_records, put_lists, item_at, put_item, data_at, put_data, malformed_at, put_malformed}
-use Rattle.cd_table.proofs.Tests.{bytes_decides, classtype_decides, question_decides, questions_decides, record_decides, records_decides, signature_decides, data_decides}
+use Rattle.cd_block.proofs.KeptEquality.{bytes_decides, classtype_decides, question_decides, questions_decides, record_decides, records_decides, signature_decides, data_decides}
 use Rattle.cd_table.proofs.Parts.{SignatureParts, QuestionParts, RecordParts, DataParts, QuestionsParts, RecordsParts, signature_agree, question_agree, record_agree, data_agree, question_list_agree, record_list_agree}
 use Rattle.cd_table.proofs.Sound.{Covered, all_left, all_right, all_both, signature_parts, question_parts, questions_parts, record_parts, records_parts, data_parts}
 use Rattle.cd_table.proofs.Stepping.{grown, image, grown_append, Leads, Goes, gives, in_turn, then_gives, regrouped, reordered, optional, one_by_one, index_at_end, image_at_end}

@@ -1,3 +1,4 @@
 pub mod Interning
 pub mod Equality
 pub mod Growing
+pub mod Once

@@ -1,12 +1,14 @@
 //! The block of a kept block.
 
-ghost use Rattle.std.specs.Prelude.{◌≡◌, IfOk};
+ghost use Rattle.std.specs.Prelude.{◌≡◌, IfOk, Ok};
+ghost use Rattle.cd_block.specs.Resolving.{resolved};
 ghost use Rattle.cd_table.specs.Growing.{built};
 ghost use Rattle.cd_block.specs.Tables.{indexed};
 
 use crate::items::put_each_item;
 use crate::malformed::put_each_malformed;
 use crate::tables::Tables;
+use cd_block::laws::what_is_indexed_resolves;
 use cd_block::{Block, KeptBlock};
 use std::alloc::{AllocError, Global};
 
@@ -25,7 +27,9 @@ fn build_in_order(alloc: Global, kept: &KeptBlock) -> Result<Block, AllocError>
 /// wherever it is used (RFC 8618 7.3.2.3). Values are compared as they are: letters of a name that differ in case differ. An
 /// `Err` is for want of memory.
 pub fn build(alloc: Global, kept: &KeptBlock) -> Result<Block, AllocError>
-    ensures { IfOk result (λ b. b ≡ indexed kept.now) }
+    ensures indexed { IfOk result (λ b. b ≡ indexed kept.now) }
+    ensures resolves { IfOk result (λ b. resolved b ≡ Ok kept.now) }
 {
+    what_is_indexed_resolves(kept);
     build_in_order(alloc, kept)
 }
