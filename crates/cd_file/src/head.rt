@@ -126,8 +126,8 @@ fn push_preamble(out: &mut Out, params: &Params) -> Result<(), AllocError>
     Ok(())
 }
 
-/// Writes the head of a file with these block parameters, up to the head of its array of blocks (RFC 8618 7.3). An `Err`
-/// is for want of memory, and may write a front of it.
+/// Writes the head of a file with these block parameters, up to the head of its array of blocks (RFC 8618 7.3). An
+/// `Err` is for want of memory, and may write a front of it.
 pub fn head_bytes(params: &Params, out: &mut Out) -> Result<(), AllocError>
     ensures { OnOk result (out.new ≡ out.old ++ file_head params.now) }
 {

@@ -1,11 +1,13 @@
 //! Writes C-DNS files (RFC 8618 7.3) in their one canonical spelling.
 //!
-//! - A *file* is an array of the text "C-DNS", a *preamble* with the block parameters, and an array of *blocks*. The array of
-//!   blocks alone has an indefinite length, so a file is written block by block.
+//! - A *file* is an array of the text "C-DNS", a *preamble* with the block parameters, and an array of *blocks*. The
+//!   array of blocks alone has an indefinite length, so a file is written block by block.
 //! - The *head* of a file is all that stands before its first block, the *end* the break after its last one.
-//! - An *entry* is a key of a map and its value. A value that may be absent is an `Option` in the types of `cd_block`: an
-//!   absent one has no entry. An empty table or list of items, and a map of optional values of which none is there, are absent too.
-//! - The *spelling* is canonical (RFC 8949 4.2.1): heads are the shortest, the keys of a map ascend, and lengths are definite.
+//! - An *entry* is a key of a map and its value. A value that may be absent is an `Option` in the types of `cd_block`:
+//!   an absent one has no entry. An empty table or list of items, and a map of optional values of which none is there,
+//!   are absent too.
+//! - The *spelling* is canonical (RFC 8949 4.2.1): heads are the shortest, the keys of a map ascend, and lengths are
+//!   definite.
 //!
 //! | Call | Writes | Section |
 //! |---|---|---|
@@ -15,9 +17,9 @@
 //!
 //! Each call writes at the end of an `Out`, and builds no items on the way.
 //!
-//! Example: a block without an earliest time, whose statistics are that one message was processed and that one was not kept,
-//! and that holds nothing else, is `a2 00 a0 01 a6 00 01 01 00 02 00 03 00 04 01 05 00`: a map of two keys, an empty preamble under 0,
-//! and the six statistics under 1.
+//! Example: a block without an earliest time, whose statistics are that one message was processed and that one was not
+//! kept, and that holds nothing else, is `a2 00 a0 01 a6 00 01 01 00 02 00 03 00 04 01 05 00`: a map of two keys, an
+//! empty preamble under 0, and the six statistics under 1.
 //!
 //! ```text
 //! let mut out = Out::new(alloc);
@@ -27,8 +29,8 @@
 //! end_bytes(&mut out)?;
 //! ```
 //!
-//! `laws` says that these calls in turn write the file of the parameters and of the two blocks, `size_laws` how many bytes
-//! each map of a block takes at most.
+//! `laws` says that these calls in turn write the file of the parameters and of the two blocks, `size_laws` how many
+//! bytes each map of a block takes at most.
 #![tactic(auto)]
 
 mod block;

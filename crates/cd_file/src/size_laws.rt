@@ -1,5 +1,5 @@
-//! How many bytes the maps of a block take at most, where each number lies in the range of its type. A law is the contract of
-//! a function that does nothing.
+//! How many bytes the maps of a block take at most, where each number lies in the range of its type. A law is the
+//! contract of a function that does nothing.
 
 ghost use Rattle.std.specs.Prelude.{ℕ, ◌+◌, ◌*◌, ◌≤◌, length};
 ghost use Rattle.cd_block.specs.declared.block.BlockSig.{BlockSig};
