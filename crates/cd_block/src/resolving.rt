@@ -70,7 +70,8 @@ fn each_malformed(
 /// its table, or is used as a name and gives bytes that are no name (RFC 1035 3.1), is the fault:
 /// - for each item: the client's address; the signature, its server's address, its type and class, its OPT record's
 ///   options; the name; then of the query's and of the response's extended part the questions, answers, authority
-///   records and additional records: the list, and for each element the element, its name, its type and class, its RDATA;
+///   records and additional records: the list, and for each element the element, its name, its type and class, its
+///   RDATA;
 /// - then for each malformed message: the client's address; its data, and the server's address in it.
 ///
 /// Want of memory is `NoMemory`, and may come before a fault is found.
