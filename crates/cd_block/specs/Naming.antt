@@ -1,5 +1,5 @@
--- That the names of a kept block are names without pointers (RFC 1035 3.1), as its type keeps them. A list of bytes alone
--- need not be one.
+-- That the names of a kept block are names without pointers (RFC 1035 3.1), as its type keeps them. A list of bytes
+-- alone need not be one.
 use Rattle.std.specs.Prelude.{List, IfSome}
 use Rattle.std.specs.List.{AllByRecursion}
 use Rattle.cd_name.specs.Names.{IsName}

@@ -1,5 +1,5 @@
-//! Laws of the format's numbers: the keys of RFC 8618 7.3, the bits of its hints and its flags, each as it stands there.
-//! Of collection parameters the first two keys have constants, the others have none. And the law that a block with its
+//! Laws of the format's numbers: the keys of RFC 8618 7.3, the bits of its hints and its flags, each as it stands
+//! there. Of collection parameters the first two keys have constants, the others have none. And the law that a block with its
 //! tables holds what the kept block does. A law is the contract of a function that does nothing, or only looks.
 
 ghost use Rattle.std.specs.Prelude.{◌≡◌, [], ◌∷◌, Ok};
@@ -54,8 +54,8 @@ pub fn flags_are_those_of_the_format()
     ensures response { response_flags ≡ 256 ∷ 512 ∷ 1024 ∷ 2048 ∷ 4096 ∷ 8192 ∷ 16384 ∷ [] }
 {}
 
-/// A kept block is what its own block resolves to: no value is lost, exchanged or made equal to another one. It looks at
-/// each name, which tells that it is one, and changes nothing.
+/// A kept block is what its own block resolves to: no value is lost, exchanged or made equal to another one. It looks
+/// at each name, which tells that it is one, and changes nothing.
 pub fn what_is_indexed_resolves(kept: &KeptBlock)
     ensures { resolved (indexed kept.now) ≡ Ok kept.now }
 {

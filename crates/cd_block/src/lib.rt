@@ -2,18 +2,18 @@
 //!
 //! - `Params` are the storage and the collection parameters of a file, `Hints` its storage hints.
 //! - A *kept block* has each value where it belongs: `KeptBlock`, `KeptItem`, `KeptSig` and the other types named so.
-//! - A *block* has each value once, in one of nine tables, and its index there wherever it belongs: `Block`, `BlockItem`,
-//!   `BlockSig` and the other types named so. An index counts from 0.
+//! - A *block* has each value once, in one of nine tables, and its index there wherever it belongs: `Block`,
+//!   `BlockItem`, `BlockSig` and the other types named so. An index counts from 0.
 //!
-//! `resolve` gives the kept block of a block, or the first index that leads nowhere. What a block with its tables is, and that
-//! its kept block is what it resolves to, is stated in `laws`.
+//! `resolve` gives the kept block of a block, or the first of its indexes that leads to no entry, or to no name where a
+//! name is due. That a kept block is what its own block resolves to is stated in `laws`.
 //!
-//! A struct stands for a map of the format, and a field for the key of its name. A field that is an `Option` stands for a key
-//! that may be absent. Keys have constants in `keys`, the bits of hints in `hints`, and those
-//! of flags in `flags`. That each is the number of the format is stated in `laws`.
+//! A struct stands for a map of the format, and a field for the key of its name. A field that is an `Option` stands for
+//! a key that may be absent. Keys have constants in `keys`, the bits of hints in `hints`, and those of flags in `flags`.
+//! That each is the number of the format is stated in `laws`.
 //!
-//! Example: where the table `name_rdata` holds the names example.com and example.org, an item whose query asks for example.org has
-//! 1 as its `query_name` in a `BlockItem`, and the name itself in a `KeptItem`.
+//! Example: where the table `name_rdata` holds the names example.com and example.org, an item whose query asks for
+//! example.org has 1 as its `query_name` in a `BlockItem`, and the name itself in a `KeptItem`.
 //!
 //! | Type | Map | Section |
 //! |---|---|---|

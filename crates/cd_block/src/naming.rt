@@ -66,8 +66,8 @@ fn items_named(items: &[KeptItem])
     }
 }
 
-/// The names of a kept block are names (RFC 1035 3.1). It looks at each and changes nothing: a contract sees a `Name` as
-/// its bytes, and this says of all of them what `Name` keeps.
+/// The names of a kept block are names (RFC 1035 3.1). It looks at each and changes nothing: a contract sees a `Name`
+/// as its bytes, and this says of all of them what `Name` keeps.
 pub fn names_are_names(kept: &KeptBlock)
     ensures { BlockNamed kept.now }
 {

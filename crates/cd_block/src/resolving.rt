@@ -63,14 +63,15 @@ fn each_malformed(
     Ok(List::from_vec(messages))
 }
 
-/// The kept block of a block: each value in the place of its index, and no tables (RFC 8618 7.3.2). What no index leads to
-/// is left out, and an empty list is the same as an absent one. Each value is copied once.
+/// The kept block of a block: each value in the place of its index, and no tables (RFC 8618 7.3.2). What no index leads
+/// to is left out, and an empty list is the same as an absent one. Each value is copied once.
 ///
-/// It answers for any block. Indexes are looked up in this order, and the first one that is at or past the length of its
-/// table, or is used as a name and gives bytes that are no name (RFC 1035 3.1), is the fault:
+/// It answers for any block. Indexes are looked up in this order, and the first one that is at or past the length of
+/// its table, or is used as a name and gives bytes that are no name (RFC 1035 3.1), is the fault:
 /// - for each item: the client's address; the signature, its server's address, its type and class, its OPT record's
-///   options; the name; then of the query's and of the response's extended part the questions, answers, authority records
-///   and additional records: the list, and for each element the element, its name, its type and class, its RDATA;
+///   options; the name; then of the query's and of the response's extended part the questions, answers, authority
+///   records and additional records: the list, and for each element the element, its name, its type and class, its
+///   RDATA;
 /// - then for each malformed message: the client's address; its data, and the server's address in it.
 ///
 /// Want of memory is `NoMemory`, and may come before a fault is found.
