@@ -1,9 +1,8 @@
 -- The block whose tables grow value by value is the block of the kept block.
-use Rattle.std.proofs.Common.{◌≡◌, ℕ, Bool, true, List, [], ◌∷◌, ◌++◌, map, fold, Option, Some, None, Decides, refl, ap, sym, ◌∙◌, subst}
-use Rattle.std.specs.List.{list_any, flat_map, filter_map, cons_option, AllByRecursion}
+use Rattle.std.proofs.Common.{◌≡◌, Bool, List, [], ◌∷◌, ◌++◌, map, fold, Option, Some, None, Decides, refl, ap, sym, ◌∙◌, subst}
+use Rattle.std.specs.List.{flat_map, cons_option, AllByRecursion}
 use Rattle.std.proofs.lemmas.List.{append-nil}
 use Rattle.cd_block.specs.declared.kept.KeptBlock.{KeptBlock}
-use Rattle.cd_block.specs.declared.block.Block.{Block}
 use Rattle.cd_block.specs.declared.block.BlockItem.{BlockItem}
 use Rattle.cd_block.specs.declared.block.BlockMalformed.{BlockMalformed}
 use Rattle.cd_block.specs.Traversal.{Visited, Address, ClassType, NameOrRdata, Signature, QuestionList, Question, RecordList, Record, MalformedData, used, visited_item, visited_malformed, visited, as_address, as_classtype, as_bytes, as_signature, as_question_list, as_question, as_record_list, as_record, as_data}
@@ -12,13 +11,13 @@ use Rattle.cd_block.specs.Tables.{KeptTables, table_of, tables_of, question_inde
 use Rattle.cd_table.specs.declared.tables.Tables.{Tables}
 use Rattle.cd_table.specs.Interning.{put}
 use Rattle.cd_table.specs.Equality.{same_indexes, same_block_question, same_block_record, same_block_signature, same_block_data}
-use Rattle.cd_table.specs.Growing.{After, each, put_item, put_malformed, no_tables, block_of, built}
+use Rattle.cd_table.specs.Growing.{each, put_item, put_malformed, no_tables, block_of, built}
 use Rattle.cd_table.proofs.Distinct.{fold_put}
 use Rattle.cd_table.proofs.Images.{fold_image, all_fold}
 use Rattle.cd_table.proofs.Places.{any_stays}
 use Rattle.cd_block.proofs.KeptEquality.{bytes_decides, classtype_decides, question_decides, questions_decides, record_decides, records_decides, signature_decides, data_decides}
 use Rattle.cd_table.proofs.Parts.{Has, Present, HasAddress, HasClasstype, HasBytes, HasQuestion, HasRecord, SignatureParts, QuestionParts, RecordParts, DataParts, QuestionsParts, RecordsParts, signature_agree, question_agree, record_agree, data_agree, question_list_agree, record_list_agree}
-use Rattle.cd_table.proofs.Sound.{Covered, Sound, AllSound, AllCovered, block_sound, kind_sound, sound_signature, sound_question_list, sound_question, sound_record_list, sound_record, sound_data}
+use Rattle.cd_table.proofs.Sound.{Covered, AllSound, AllCovered, block_sound, kind_sound, sound_signature, sound_question_list, sound_question, sound_record_list, sound_record, sound_data}
 use Rattle.cd_table.proofs.Stepping.{grown, image, tables_path, grown_append, Leads, leads_on, one_by_one}
 use Rattle.cd_table.proofs.Steps.{Closed, item_goes, malformed_goes}
 

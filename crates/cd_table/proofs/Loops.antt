@@ -1,8 +1,8 @@
 -- A step for each value of a list, in a loop.
-use Rattle.std.proofs.Common.{◌≡◌, ℕ, ◌+◌, ◌<◌, ◌≤◌, suc, List, [], ◌∷◌, ◌++◌, length, drop, get_or, refl, ap, sym, ◌∙◌, add-one, drop-cons, arith}
+use Rattle.std.proofs.Common.{◌≡◌, ℕ, ◌+◌, ◌<◌, ◌≤◌, suc, List, [], ◌∷◌, ◌++◌, length, drop, get_or, ap, sym, ◌∙◌, add-one, drop-cons}
 use Rattle.std.proofs.lemmas.List.{append-nil, append_assoc, drop_all}
 use Rattle.cd_table.specs.declared.tables.Tables.{Tables}
-use Rattle.cd_table.specs.Growing.{After, Growing, each, in_front}
+use Rattle.cd_table.specs.Growing.{Growing, each, in_front}
 
 -- a step for a value in front of others
 each_cons : {A B : Type 0} (step : A → Growing B) (x : A) (xs : List A) (front : List B) (t : Tables) → in_front front (each step (x ∷ xs) t) ≡ in_front (front ++ (step x t).value ∷ []) (each step xs (step x t).tables)

@@ -1,6 +1,6 @@
 -- The values of a table are pairwise different, and so are their images.
-use Rattle.std.proofs.Common.{◌≡◌, ◌≢◌, ℕ, Bool, true, false, not, cond, List, [], ◌∷◌, map, Decides, refl, ap, sym, ◌∙◌, true≢false, arith}
-use Rattle.std.specs.List.{filter, AllPairs, AllByRecursion}
+use Rattle.std.proofs.Common.{◌≡◌, ◌≢◌, Bool, true, false, not, cond, List, [], ◌∷◌, map, Decides, refl, ap, sym, ◌∙◌, true≢false, arith}
+use Rattle.std.specs.List.{filter, AllByRecursion}
 use Rattle.std.proofs.lemmas.List.Elements.{All-from_recursion}
 use Rattle.std.proofs.lemmas.List.Kept.{AllPairs-cons}
 use Rattle.cd_block.specs.declared.kept.KeptBlock.{KeptBlock}

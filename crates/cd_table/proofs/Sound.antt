@@ -1,6 +1,6 @@
 -- The parts of each value that is gone through are gone through too.
-use Rattle.std.proofs.Common.{◌≡◌, ℕ, Bool, true, List, [], ◌∷◌, ◌++◌, map, fold, Option, Some, None, Decides, refl, ap, sym, ◌∙◌, subst}
-use Rattle.std.specs.List.{list_any, flat_map, filter_map, cons_option, AllByRecursion}
+use Rattle.std.proofs.Common.{ℕ, List, [], ◌∷◌, ◌++◌, Option, Some, None}
+use Rattle.std.specs.List.{flat_map, cons_option, AllByRecursion}
 use Rattle.cd_block.specs.declared.kept.KeptQuestion.{KeptQuestion}
 use Rattle.cd_block.specs.declared.kept.KeptRr.{KeptRr}
 use Rattle.cd_block.specs.declared.kept.KeptLists.{KeptLists}
@@ -10,7 +10,7 @@ use Rattle.cd_block.specs.declared.kept.KeptData.{KeptData}
 use Rattle.cd_block.specs.declared.kept.KeptMalformed.{KeptMalformed}
 use Rattle.cd_block.specs.declared.kept.KeptBlock.{KeptBlock}
 use Rattle.cd_block.specs.Traversal.{Visited, Address, ClassType, NameOrRdata, Signature, QuestionList, Question, RecordList, Record, MalformedData, used, where_present, visited_address, visited_classtype, visited_bytes, visited_signature, visited_question, visited_questions, visited_record, visited_records, visited_lists, visited_item, visited_data, visited_malformed, visited, as_signature, as_question_list, as_question, as_record_list, as_record, as_data}
-use Rattle.cd_block.specs.Equality.{same_bytes, same_classtype, same_question, same_questions, same_record, same_records, same_signature, same_data}
+use Rattle.cd_block.specs.Equality.{same_questions, same_records, same_signature, same_data}
 use Rattle.cd_block.specs.Tables.{KeptTables}
 use Rattle.cd_table.proofs.Parts.{Has, Present, HasAddress, HasClasstype, HasBytes, HasQuestion, HasRecord, SignatureParts, QuestionParts, RecordParts, DataParts, QuestionsParts, RecordsParts}
 

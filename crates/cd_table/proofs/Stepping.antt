@@ -1,21 +1,17 @@
 -- What a step that makes tables grow does to the tables at the end.
-use Rattle.std.proofs.Common.{◌≡◌, ℕ, Bool, true, List, [], ◌∷◌, ◌++◌, map, fold, Option, Some, None, Decides, refl, ap, sym, ◌∙◌, subst}
-use Rattle.std.specs.List.{list_any, position_or_len, flat_map, filter_map, cons_option, AllByRecursion}
+use Rattle.std.proofs.Common.{◌≡◌, Bool, true, List, [], ◌∷◌, ◌++◌, map, fold, Option, Some, None, refl, ap, sym, ◌∙◌, subst}
+use Rattle.std.specs.List.{position_or_len, flat_map, AllByRecursion}
 use Rattle.std.specs.Option.{option_map}
-use Rattle.std.proofs.lemmas.List.{append-nil, append_assoc, map-append}
+use Rattle.std.proofs.lemmas.List.{append_assoc, map-append}
 use Rattle.std.proofs.lemmas.List.Sums.{fold-append}
 use Rattle.std.proofs.lemmas.List.Elements.{filter_map-append}
-use Rattle.cd_block.specs.declared.block.BlockQuestion.{BlockQuestion}
-use Rattle.cd_block.specs.declared.block.BlockRr.{BlockRr}
-use Rattle.cd_block.specs.declared.block.BlockSig.{BlockSig}
-use Rattle.cd_block.specs.declared.block.BlockData.{BlockData}
 use Rattle.cd_block.specs.Traversal.{Visited, used, where_present, as_address, as_classtype, as_bytes, as_signature, as_question_list, as_question, as_record_list, as_record, as_data}
 use Rattle.cd_block.specs.Equality.{same_bytes, same_classtype}
 use Rattle.cd_block.specs.Tables.{KeptTables, index_in, question_index, record_index, indexed_question, indexed_record, indexed_signature, indexed_data}
 use Rattle.cd_table.specs.declared.tables.Tables.{Tables}
 use Rattle.cd_table.specs.Interning.{put}
 use Rattle.cd_table.specs.Equality.{same_indexes, same_block_question, same_block_record, same_block_signature, same_block_data}
-use Rattle.cd_table.specs.Growing.{After, Growing, ◌>>=◌, give, if_present, each}
+use Rattle.cd_table.specs.Growing.{Growing, ◌>>=◌, give, if_present, each}
 use Rattle.cd_table.proofs.Images.{place_image}
 use Rattle.cd_table.proofs.Places.{place_stays, index_is_place}
 use Rattle.cd_table.proofs.Sound.{Covered, all_left, all_right, all_both}

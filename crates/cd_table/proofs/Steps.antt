@@ -1,9 +1,8 @@
 -- Each step of the traversal goes through its values and gives the index at the end.
-use Rattle.std.proofs.Common.{◌≡◌, ℕ, Bool, true, List, [], ◌∷◌, ◌++◌, map, fold, Option, Some, None, Decides, refl, ap, sym, ◌∙◌, subst}
-use Rattle.std.specs.List.{list_any, position_or_len, flat_map, filter_map, AllByRecursion}
+use Rattle.std.proofs.Common.{◌≡◌, ℕ, List, [], ◌∷◌, ◌++◌, map, fold, Option, Some, None, refl, ap, sym, ◌∙◌}
+use Rattle.std.specs.List.{flat_map, AllByRecursion}
 use Rattle.std.specs.Option.{option_map}
-use Rattle.std.proofs.lemmas.List.{append-nil, append_assoc}
-use Rattle.std.proofs.lemmas.List.Elements.{filter_map-append}
+use Rattle.std.proofs.lemmas.List.{append_assoc}
 use Rattle.cd_block.specs.declared.kept.KeptQuestion.{KeptQuestion}
 use Rattle.cd_block.specs.declared.kept.KeptRr.{KeptRr}
 use Rattle.cd_block.specs.declared.kept.KeptLists.{KeptLists}
@@ -12,17 +11,17 @@ use Rattle.cd_block.specs.declared.kept.KeptItem.{KeptItem}
 use Rattle.cd_block.specs.declared.kept.KeptData.{KeptData}
 use Rattle.cd_block.specs.declared.kept.KeptMalformed.{KeptMalformed}
 use Rattle.cd_block.specs.declared.block.BlockLists.{BlockLists}
-use Rattle.cd_block.specs.Traversal.{Visited, Address, ClassType, NameOrRdata, Signature, QuestionList, Question, RecordList, Record, MalformedData, used, where_present, visited_address, visited_classtype, visited_bytes, visited_signature, visited_question, visited_questions, visited_record, visited_records, visited_lists, visited_item, visited_data, visited_malformed, visited, as_address, as_classtype, as_bytes, as_signature, as_question_list, as_question, as_record_list, as_record, as_data}
+use Rattle.cd_block.specs.Traversal.{Visited, ClassType, NameOrRdata, Signature, QuestionList, Question, RecordList, Record, MalformedData, used, where_present, visited_address, visited_classtype, visited_bytes, visited_signature, visited_question, visited_questions, visited_record, visited_records, visited_lists, visited_item, visited_data, visited_malformed, as_address, as_classtype, as_bytes, as_signature, as_question_list, as_question, as_record_list, as_record, as_data}
 use Rattle.cd_block.specs.Equality.{same_bytes, same_classtype, same_question, same_questions, same_record, same_records, same_signature, same_data}
 use Rattle.cd_block.specs.Tables.{KeptTables, address_index, classtype_index, bytes_index, signature_index, question_index, record_index, data_index, question_list_index, record_list_index, indexed_question, indexed_record, indexed_lists, indexed_signature, indexed_item, indexed_data, indexed_malformed}
 use Rattle.cd_table.specs.declared.tables.Tables.{Tables}
 use Rattle.cd_table.specs.Interning.{put}
 use Rattle.cd_table.specs.Equality.{same_indexes, same_block_question, same_block_record, same_block_signature, same_block_data}
-use Rattle.cd_table.specs.Growing.{After, Growing, ◌>>=◌, give, if_present, each, put_address, put_classtype, put_bytes, put_block_signature, put_block_question, put_question_indexes, put_block_record, put_record_indexes, put_block_data, signature_at, put_signature, put_question, put_questions, put_record, put_records, put_lists, item_at, put_item, data_at, put_data, malformed_at, put_malformed}
+use Rattle.cd_table.specs.Growing.{◌>>=◌, give, if_present, each, put_address, put_classtype, put_bytes, put_block_signature, put_block_question, put_question_indexes, put_block_record, put_record_indexes, put_block_data, signature_at, put_signature, put_question, put_questions, put_record, put_records, put_lists, item_at, put_item, data_at, put_data, malformed_at, put_malformed}
 use Rattle.cd_block.proofs.KeptEquality.{bytes_decides, classtype_decides, question_decides, questions_decides, record_decides, records_decides, signature_decides, data_decides}
 use Rattle.cd_table.proofs.Parts.{SignatureParts, QuestionParts, RecordParts, DataParts, QuestionsParts, RecordsParts, signature_agree, question_agree, record_agree, data_agree, question_list_agree, record_list_agree}
-use Rattle.cd_table.proofs.Sound.{Covered, all_left, all_right, all_both, signature_parts, question_parts, questions_parts, record_parts, records_parts, data_parts}
-use Rattle.cd_table.proofs.Stepping.{grown, image, grown_append, Leads, Goes, gives, in_turn, then_gives, regrouped, reordered, optional, one_by_one, index_at_end, image_at_end}
+use Rattle.cd_table.proofs.Sound.{Covered, all_left, all_both, signature_parts, question_parts, questions_parts, record_parts, records_parts, data_parts}
+use Rattle.cd_table.proofs.Stepping.{grown, image, grown_append, Goes, gives, in_turn, then_gives, regrouped, reordered, optional, one_by_one, index_at_end, image_at_end}
 
 -- the parts of each value in the tables stand in the tables
 pub record Closed (F : KeptTables) : Type 0 where

@@ -1,5 +1,5 @@
 -- How the tables of a block grow, value by value. The tables hold values of a block, with the indexes of their parts.
-use Rattle.std.specs.Prelude.{ℕ, Bool, List, [], ◌∷◌, ◌++◌, Option, Some, None}
+use Rattle.std.specs.Prelude.{ℕ, List, [], ◌∷◌, ◌++◌, Option, Some, None}
 use Rattle.std.specs.List.{position_or_len}
 use Rattle.cd_block.specs.declared.kept.KeptQuestion.{KeptQuestion}
 use Rattle.cd_block.specs.declared.kept.KeptRr.{KeptRr}

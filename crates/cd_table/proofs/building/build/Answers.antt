@@ -3,7 +3,7 @@ use Rattle.std.proofs.Common.{◌≡◌, Ok, Err, ap, ◌∙◌}
 use Rattle.std.specs.Prelude.{Result, IfOk}
 use Rattle.cd_block.specs.declared.block.Block.{Block}
 use Rattle.cd_block.specs.declared.kept.KeptBlock.{KeptBlock}
-use Rattle.cd_block.specs.Resolving.{Resolving, resolved}
+use Rattle.cd_block.specs.Resolving.{resolved}
 use Rattle.cd_block.specs.Tables.{indexed}
 use Rattle.cd_table.specs.Growing.{built}
 use Rattle.cd_table.proofs.Built.{built_is_indexed}

@@ -1,5 +1,5 @@
 -- a list has the place of its vector
-use Rattle.std.proofs.Common.{ap, ◌∙◌, sym, position}
+use Rattle.std.proofs.Common.{◌∙◌}
 use Rattle.std.specs.Cmp.Lexicographic.{pointwise}
 use Rattle.cd_table.proofs.Images.{position_map}
 use Rattle.cd_table.proofs.slice_table.SliceTable.index_of.Goals as goal
