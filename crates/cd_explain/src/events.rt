@@ -20,6 +20,19 @@ const MOST_WEIGHT: u64 = 9_000_000_000_000_000_000;
 
 const MOST_PAYLOAD: usize = 65_535;
 
+/// The windows that settings say.
+pub fn windows_of(settings: &Settings) -> Windows
+    ensures { result.count ≡ settings.now.window }
+{
+    let params = &settings.params;
+    Windows {
+        query_ns: params.query_ms.unwrap_or(0).saturating_mul(1_000_000),
+        skew_ns: params.skew_us.unwrap_or(0).saturating_mul(1_000),
+        count: settings.window,
+        bytes: settings.window_bytes,
+    }
+}
+
 /// The events of a capture, in its order.
 #[derive(Drop)]
 pub struct Events {
@@ -71,14 +84,12 @@ impl Events {
 
     /// The partner of each.
     pub fn partners(&self, settings: &Settings) -> Result<List<Option<usize>>, AllocError> {
-        let params = &settings.params;
-        let windows = Windows {
-            query_ns: params.query_ms.unwrap_or(0).saturating_mul(1_000_000),
-            skew_ns: params.skew_us.unwrap_or(0).saturating_mul(1_000),
-            count: settings.window,
-            bytes: settings.window_bytes,
-        };
-        pair_all(self.alloc, self.list.as_slice(), &windows)
+        pair_all(self.alloc, self.list.as_slice(), &windows_of(settings))
+    }
+
+    /// All events, one by one.
+    pub fn into_vec(self) -> Vec<Event> {
+        self.list.into_vec()
     }
 
     /// All events, to be taken one by one.
@@ -143,7 +154,8 @@ impl Visit for Events {
     }
 }
 
-fn word_of(kind: Kind) -> &'static str {
+/// A kind of events, as a word.
+pub fn word_of(kind: Kind) -> &'static str {
     match kind {
         Kind::Query => "query",
         Kind::Response => "response",

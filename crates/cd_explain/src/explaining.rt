@@ -12,6 +12,7 @@ use crate::inputs::{bytes_of_hex, words_of_line};
 use crate::messages::explain_message;
 use crate::names::{explain_checksum, explain_name, explain_numbers, explain_prefix};
 use crate::packets::{Layers, Packets, put_walked};
+use crate::released::put_released;
 use crate::runs::{Shown, put_runs};
 use crate::settings::explain_words;
 use cd_hints::Settings;
@@ -56,6 +57,42 @@ fn put_file(
     put_end(alloc, text)
 }
 
+// What a layer makes of events with their partners.
+fn put_paired(
+    alloc: Global,
+    text: &mut String,
+    asked: Asked,
+    settings: &Settings,
+    events: Events,
+) -> Result<(), AllocError>
+    requires { IsValid settings.now }
+{
+    let partners = events.partners(settings)?;
+    let partners = partners.as_slice();
+    match asked {
+        Asked::Pairs => put_pairs(text, events.as_slice(), partners),
+        Asked::File => put_file(alloc, text, settings, events, partners),
+        _ => put_runs(alloc, text, settings, Shown::Kept, events, partners),
+    }
+}
+
+// What a layer makes of events.
+fn put_events_of(
+    alloc: Global,
+    text: &mut String,
+    asked: Asked,
+    settings: &Settings,
+    events: Events,
+) -> Result<(), AllocError>
+    requires { IsValid settings.now }
+{
+    match asked {
+        Asked::Events => put_events(text, events.as_slice()),
+        Asked::Released => put_released(alloc, text, settings, events),
+        asked => put_paired(alloc, text, asked, settings, events),
+    }
+}
+
 // A capture, by valid settings.
 fn put_capture(
     alloc: Global,
@@ -76,22 +113,7 @@ fn put_capture(
         asked => {
             let mut events = Events::new(alloc, settings, request.ipv6);
             let walked = walk(alloc, bytes, chunk, &mut events)?;
-            let partners = events.partners(settings)?;
-            match asked {
-                Asked::Pairs => put_pairs(text, events.as_slice(), partners.as_slice())?,
-                Asked::Records => {
-                    put_runs(
-                        alloc,
-                        text,
-                        settings,
-                        Shown::Kept,
-                        events,
-                        partners.as_slice(),
-                    )?
-                }
-                Asked::File => put_file(alloc, text, settings, events, partners.as_slice())?,
-                _ => put_events(text, events.as_slice())?,
-            }
+            put_events_of(alloc, text, asked, settings, events)?;
             walked
         }
     };

@@ -7,6 +7,7 @@
 //! - `layers`: the datagram of each packet, or why there is none.
 //! - `events`: the events of DNS traffic in a capture.
 //! - `pairs`: each event with its partner.
+//! - `released`: each event as it comes, and the records that are released by it.
 //! - `records`: the records of a capture and the blocks that are kept of them (RFC 8618 7.3.2).
 //! - `file`: the head, the blocks and the end of the file of a capture, as they are written, and what the tables of each block
 //!   resolve to.
@@ -38,6 +39,7 @@ mod messages;
 mod names;
 mod packets;
 mod records;
+mod released;
 mod runs;
 mod settings;
 mod text;
@@ -53,7 +55,7 @@ use std::io::ErrorKind;
 use std::process::ExitCode;
 
 const USAGE: &[u8] = b"usage: cd_explain LAYER [--hex] [--chunk N] [--ipv6 PREFIX] [WORDS]
-layers: message, packets, layers, events, pairs, records, file, words, name, prefix, checksum, numbers
+layers: message, packets, layers, events, pairs, released, records, file, words, name, prefix, checksum, numbers
 WORDS: options of compact for a capture; numbers for name, prefix, checksum, numbers; a type of answers for message.
 ";
 
