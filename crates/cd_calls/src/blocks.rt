@@ -17,7 +17,7 @@ fn index(wrong: u8, table: u8) -> u64 {
     if wrong == table { 1 } else { 0 }
 }
 
-fn one<T>(alloc: Global, value: T) -> Result<List<T>, AllocError> {
+fn one<T: Drop>(alloc: Global, value: T) -> Result<List<T>, AllocError> {
     let mut values = Vec::new(alloc);
     match values.push(value) {
         Ok(()) => Ok(List::from_vec(values)),

@@ -31,6 +31,8 @@ mod runs;
 #[cfg(test)]
 mod settings;
 #[cfg(test)]
+mod store;
+#[cfg(test)]
 mod words;
 #[cfg(test)]
 mod written_names;
