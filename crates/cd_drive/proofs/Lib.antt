@@ -1,0 +1,5 @@
+pub mod Stops
+pub mod Taking
+pub mod Flowing
+pub mod Finishing
+pub mod Told

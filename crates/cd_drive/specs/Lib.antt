@@ -1,0 +1,4 @@
+pub mod Behaviors
+pub mod Chunks
+pub mod Driving
+pub mod Nowhere
