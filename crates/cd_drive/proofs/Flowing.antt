@@ -10,7 +10,8 @@ use Rattle.cd_ports.specs.Writing.{SinkMeaning, OutputStep, AppendsPrefix}
 use Rattle.cd_ports.specs.declared.sink.SinkFault.{SinkFault}
 use Rattle.cd_ports.specs.declared.sink.SinkFault.TheVariants as fault
 use Rattle.cd_drive.specs.Behaviors.{Behavior, IsLawful, IsFront}
-use Rattle.cd_drive.specs.Driving.{Took, TakesChunk, Wrote, AppendsMore, StopsReading, Reads}
+use Rattle.cd_drive.specs.Driving.{Took, AppendsMore, ReadsInTime}
+use Rattle.cd_drive.specs.Steps.{TakesChunk, Wrote, Reads}
 use Rattle.cd_drive.specs.declared.driving.Stop.{Stop}
 
 -- a machine that stands so, and a call that writes what is ready
@@ -56,22 +57,32 @@ wrote_stops T k0 k1 p q h k = record {
   refused = λ before now. refl;
 }
 
--- nothing was read and written
-start_stops : {R C : Type 0} (d : Behavior R C) (max : ℕ) → IsLawful d → StopsReading d max [] []
-start_stops d max laws = record { chunk = omega arith; undecided = laws.begins; within = omega arith; few = omega arith }
+-- nothing was read
+start_reads : {R C : Type 0} (d : Behavior R C) (max : ℕ) (s : SourceMeaning) (k0 k1 : SinkMeaning) → IsLawful d →
+    ReadsInTime d max s s k0 k1 []
+start_reads d max s k0 k1 laws = record {
+  before = [];
+  last = [];
+  split = refl;
+  chunk = omega arith;
+  undecided = laws.begins;
+  within = omega arith;
+  few = omega arith;
+  calls = omega arith;
+  written = inl (record { source = refl; none = refl });
+}
 
-none_taken : (max : ℕ) → let none : List ℕ = [] in take max (none ++ none) ≡ none
+none_taken : (max : ℕ) → let none : List ℕ = [] in take max none ≡ none
 none_taken max = let none : List ℕ = [] in take_all max none (omega arith)
 
+-- memory ran out before anything was read
 pub reads_none : {R C : Type 0} (d : Behavior R C) (max : ℕ) (stands : List ℕ → List ℕ → Type 0) (s : SourceMeaning) (k : SinkMeaning) → IsLawful d →
     Reads d max stands s s k k (Err fault.NoMemory)
 reads_none d max stands s k laws = record {
-  before = [];
-  last = [];
+  taken = [];
   took = consumes_none s.left s.left (keeps_same s.left);
-  stops = start_stops d max laws;
-  early = inl refl;
-  ending = wrote_stops (Unit {0}) k k [] (d.ready (take max ([] ++ []))) (output_none (Unit {0}) k tt) (d.ready (take max ([] ++ [])), refl);
+  reads = start_reads d max s k k laws;
+  ending = wrote_stops (Unit {0}) k k [] (d.ready (take max [])) (output_none (Unit {0}) k tt) (d.ready (take max []), refl);
 }
 
 -- the first write was refused
@@ -81,11 +92,9 @@ reads_unwritten d max so sn s k0 k1 e laws fresh writes =
     let w = writes [] [] fresh in
     let P : List ℕ → Type 0 = λ t. OutputStep k0 k1 (stopped (Unit {0}) e) t in
     record {
-      before = [];
-      last = [];
+      taken = [];
       took = consumes_none s.left s.left (keeps_same s.left);
-      stops = start_stops d max laws;
-      early = inl refl;
+      reads = start_reads d max s k0 k1 laws;
       ending = subst P (w.1 ∙ ap d.ready (sym (none_taken max))) w.2;
     }
 
@@ -118,14 +127,29 @@ writes_at d e stands k0 k1 r same h =
     let P : Behavior _ _ → Type 0 = λ x. WritesReady x stands k0 k1 r in
     subst P same h
 
--- reading stops in time once a chunk was taken
-stops_chunk : {R C : Type 0} (d : Behavior R C) (max room left : ℕ) (taken bytes : List ℕ) → length taken + room ≡ max + 1 → 0 < room → d.refusal taken ≡ None →
-    length bytes ≤ 65536 → left + length bytes ≡ room → StopsReading d max taken bytes
-stops_chunk d max room left taken bytes count some unsaid chunk took = record {
-  chunk = chunk;
-  undecided = unsaid;
-  within = omega arith;
-  few = omega (arith, length-append taken bytes);
+-- the last read took these bytes, after others
+pub record ReadsLast {R C : Type 0} (d : Behavior R C) (max room left : ℕ) (s0 s2 : SourceMeaning) (k0 k2 : SinkMeaning) (taken bytes : List ℕ) : Type 0 where
+  pub count : length taken + room ≡ max + 1
+  pub some : 0 < room
+  pub unsaid : d.refusal taken ≡ None
+  pub small : length bytes ≤ 65536
+  pub fits : left + length bytes ≡ room
+  pub calls : s2.calls ≤ s0.calls + length taken + 1
+  pub written : AppendsMore k0.contents k2.contents (d.ready taken)
+
+-- the input was read in time where it was so up to the last read
+last_reads : {R C : Type 0} (d : Behavior R C) (max room left : ℕ) (s0 s2 : SourceMeaning) (k0 k2 : SinkMeaning) (taken bytes : List ℕ) →
+    ReadsLast d max room left s0 s2 k0 k2 taken bytes → ReadsInTime d max s0 s2 k0 k2 (taken ++ bytes)
+last_reads d max room left s0 s2 k0 k2 taken bytes h = record {
+  before = taken;
+  last = bytes;
+  split = refl;
+  chunk = h.small;
+  undecided = h.unsaid;
+  within = omega (arith, h.count, h.some);
+  few = omega (arith, length-append taken bytes, h.count, h.fits);
+  calls = h.calls;
+  written = inr h.written;
 }
 
 -- what is due grows with the bytes taken
@@ -139,31 +163,44 @@ due_grows d max taken bytes laws few =
 
 -- memory ran out
 pub reads_refused : {R C E : Type 0} (d : Behavior R C) (max : ℕ) (so sn : List ℕ → List ℕ → Type 0) (s0 s1 s2 : SourceMeaning) (k0 k1 : SinkMeaning) (room left : ℕ) (e : E) → IsLawful d →
-    Flows d max so s0 s1 k0 k1 room → (let r : Result (Option (Stop R)) E = Err e in Took s1 s2 (TakesChunk d so sn s2.ended room left r)) →
-    Reads d max sn s0 s2 k0 k1 (Err fault.NoMemory)
-reads_refused d max so sn s0 s1 s2 k0 k1 room left e laws h step =
+    (h : Flows d max so s0 s1 k0 k1 room) → (let r : Result (Option (Stop R)) E = Err e in Took s1 s2 (TakesChunk d so sn s2.ended room left r)) →
+    s2.calls ≤ s0.calls + length h.taken + 1 → Reads d max sn s0 s2 k0 k1 (Err fault.NoMemory)
+reads_refused d max so sn s0 s1 s2 k0 k1 room left e laws h step calls =
     let few : length h.taken ≤ max = omega (arith, h.count, h.some) in
     record {
-      before = h.taken;
-      last = step.0;
+      taken = h.taken ++ step.0;
       took = consumes_then s0.left s1.left s2.left h.taken step.0 h.took step.1;
-      stops = stops_chunk d max room left h.taken step.0 h.count h.some h.unsaid step.2.chunk step.2.room;
-      early = inr (appends_more k0.contents k1.contents (d.ready h.taken) h.output.bytes);
+      reads = last_reads d max room left s0 s2 k0 k1 h.taken step.0 (record {
+        count = h.count;
+        some = h.some;
+        unsaid = h.unsaid;
+        small = step.2.small;
+        fits = step.2.room;
+        calls = calls;
+        written = appends_more k0.contents k1.contents (d.ready h.taken) h.output.bytes;
+      });
       ending = wrote_stops (Unit {0}) k0 k1 (d.ready h.taken) (d.ready (take max (h.taken ++ step.0))) h.output (due_grows d max h.taken step.0 laws few);
     }
 
 -- something ended the input
 pub reads_stopped : {R C : Type 0} (E : Type 0) (d : Behavior R C) (max : ℕ) (so sn : List ℕ → List ℕ → Type 0) (s0 s1 s2 : SourceMeaning) (k0 k1 : SinkMeaning) (room left : ℕ) (s : Stop R) →
-    Flows d max so s0 s1 k0 k1 room → (let r : Result (Option (Stop R)) E = Ok (Some s) in Took s1 s2 (TakesChunk d so sn s2.ended room left r)) →
-    Reads d max sn s0 s2 k0 k1 (Ok s)
-reads_stopped E d max so sn s0 s1 s2 k0 k1 room left s h step =
+    (h : Flows d max so s0 s1 k0 k1 room) → (let r : Result (Option (Stop R)) E = Ok (Some s) in Took s1 s2 (TakesChunk d so sn s2.ended room left r)) →
+    s2.calls ≤ s0.calls + length h.taken + 1 → Reads d max sn s0 s2 k0 k1 (Ok s)
+unfolding last_reads
+reads_stopped E d max so sn s0 s1 s2 k0 k1 room left s h step calls =
     let j = step.2.judges max h.taken (d.ready h.taken) h.count h.history h.unsaid in
     record {
-      before = h.taken;
-      last = step.0;
+      taken = h.taken ++ step.0;
       took = consumes_then s0.left s1.left s2.left h.taken step.0 h.took step.1;
-      stops = stops_chunk d max room left h.taken step.0 h.count h.some h.unsaid step.2.chunk step.2.room;
-      early = inr (appends_more k0.contents k1.contents (d.ready h.taken) h.output.bytes);
+      reads = last_reads d max room left s0 s2 k0 k1 h.taken step.0 (record {
+        count = h.count;
+        some = h.some;
+        unsaid = h.unsaid;
+        small = step.2.small;
+        fits = step.2.room;
+        calls = calls;
+        written = appends_more k0.contents k1.contents (d.ready h.taken) h.output.bytes;
+      });
       ending = (j.1, j.0, h.output);
     }
 
@@ -187,18 +224,24 @@ goes E d max so sn s0 s1 s2 k0 k1 room left h step =
 
 -- a write between two reads was refused
 pub reads_cut : {R C : Type 0} (E : Type 0) (d : Behavior R C) (max : ℕ) (so sm sn : List ℕ → List ℕ → Type 0) (s0 s1 s2 : SourceMeaning) (k0 k1 k2 : SinkMeaning) (room left : ℕ) (e : SinkFault) →
-    Flows d max so s0 s1 k0 k1 room → (let r : Result (Option (Stop R)) E = Ok None in Took s1 s2 (TakesChunk d so sm s2.ended room left r)) →
-    WritesReady d sm k1 k2 (Err e) → Reads d max sn s0 s2 k0 k2 (Err e)
-reads_cut E d max so sm sn s0 s1 s2 k0 k1 k2 room left e h step writes =
+    (h : Flows d max so s0 s1 k0 k1 room) → (let r : Result (Option (Stop R)) E = Ok None in Took s1 s2 (TakesChunk d so sm s2.ended room left r)) →
+    WritesReady d sm k1 k2 (Err e) → s2.calls ≤ s0.calls + length h.taken + 1 → Reads d max sn s0 s2 k0 k2 (Err e)
+reads_cut E d max so sm sn s0 s1 s2 k0 k1 k2 room left e h step writes calls =
     let g = goes E d max so sm s0 s1 s2 k0 k1 room left h step in
     let w = writes (h.taken ++ step.0) (d.ready h.taken) g.history in
     let P : List ℕ → Type 0 = λ t. OutputStep k0 k2 (stopped (Unit {0}) e) t in
     record {
-      before = h.taken;
-      last = step.0;
+      taken = h.taken ++ step.0;
       took = consumes_then s0.left s1.left s2.left h.taken step.0 h.took step.1;
-      stops = stops_chunk d max room left h.taken step.0 h.count h.some h.unsaid step.2.chunk step.2.room;
-      early = inr (more_then k0.contents k1.contents k2.contents (d.ready h.taken) w.0 h.output.bytes w.2.bytes);
+      reads = last_reads d max room left s0 s2 k0 k2 h.taken step.0 (record {
+        count = h.count;
+        some = h.some;
+        unsaid = h.unsaid;
+        small = step.2.small;
+        fits = step.2.room;
+        calls = calls;
+        written = more_then k0.contents k1.contents k2.contents (d.ready h.taken) w.0 h.output.bytes w.2.bytes;
+      });
       ending = subst P (w.1 ∙ ap d.ready (sym (take_all max (h.taken ++ step.0) g.few)))
           (output_then k0 k1 k2 tt (stopped (Unit {0}) e) (d.ready h.taken) w.0 h.output w.2);
     }

@@ -4,7 +4,7 @@ use Rattle.std.proofs.lemmas.List.{take_all, append-nil, length-take}
 use Rattle.std.specs.Io.KnownBytes.{Consumes, Keeps}
 use Rattle.cd_ports.proofs.Steps.{consumes_none}
 use Rattle.cd_drive.specs.Behaviors.{Behavior}
-use Rattle.cd_drive.specs.Driving.{TakesChunk, Says}
+use Rattle.cd_drive.specs.Steps.{TakesChunk, Says}
 use Rattle.cd_drive.specs.declared.driving.Stop.{Stop}
 use Rattle.cd_drive.specs.declared.driving.Stop.TheVariants as stop
 use Rattle.cd_drive.proofs.Stops.{stopped_few, stopped_refused, stopped_long, front_grown}
@@ -20,7 +20,7 @@ chunk_failed E d so t room a b some told kept = (
   [],
   consumes_none a b kept,
   record {
-    chunk = omega arith;
+    small = omega arith;
     room = omega arith;
     more = λ e. absurd cc;
     judges = λ max taken cleared count stands none.
@@ -59,7 +59,7 @@ took_said E d so sn t room n used buf items said o a b h took says = (
   take n items,
   took,
   record {
-    chunk = omega (arith, length-take n items, h.fits, h.size);
+    small = omega (arith, length-take n items, h.fits, h.size);
     room = omega (arith, length-take n items, h.fits, h.few);
     more = λ e. omega (arith, length-take n items, h.fits, h.more);
     judges = λ max taken cleared count stands none.

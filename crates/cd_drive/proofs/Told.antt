@@ -18,5 +18,5 @@ taken_is old new t taken took is =
 pub drives_told : {R C : Type 0} (d : Behavior R C) (max : ℕ) (s0 s1 : SourceMeaning) (k0 k1 : SinkMeaning) (r : Result (Driven R C) SinkFault) →
     Drives d max s0 s1 k0 k1 r → DrivesTold d max s0 s1 k0 k1 r
 drives_told d max s0 s1 k0 k1 r h = λ taken is.
-    let P : List ℕ → Type 0 = λ t. DrivesOn d max s1.ended k0 k1 r t in
+    let P : List ℕ → Type 0 = λ t. DrivesOn d max s0 s1 k0 k1 r t in
     subst P (taken_is s0 s1 h.0 taken h.1 is) h.2

@@ -1,15 +1,15 @@
--- What a machine does with the bytes that it is fed.
+-- What a machine makes of the bytes that it is fed.
 use Rattle.std.specs.Prelude.{◌≡◌, ℕ, List, [], ◌++◌, Option, None}
 
--- what is made of bytes
+-- What is made of bytes. It is the same however they are cut into chunks.
 pub record Behavior (R C : Type 0) : Type 0 where
-  -- what they are refused for, where they are, whatever follows
+  -- what they are refused for, where they are, whatever follows them
   pub refusal : List ℕ → Option R
-  -- what they are refused for where nothing follows
+  -- what they are refused for where nothing follows them
   pub at_end : List ℕ → Option R
-  -- the bytes that are due after them, whatever follows
+  -- the output that is due once they were fed, whatever follows them
   pub ready : List ℕ → List ℕ
-  -- all bytes that are due where nothing follows
+  -- all output of them, where nothing follows them
   pub whole : List ℕ → List ℕ
   -- what is counted in them
   pub counts : List ℕ → C
@@ -18,9 +18,13 @@ pub record Behavior (R C : Type 0) : Type 0 where
 abbrev pub IsFront : List ℕ → List ℕ → Type 0
 IsFront front bytes = (rest : List ℕ) × (bytes ≡ front ++ rest)
 
--- What is due only grows, and is a front of all. What refuses bytes refuses them whatever follows, and no byte is no refusal.
-pub record IsLawful {R C : Type 0} (d : Behavior R C) : Type 0 where
-  pub grows : (xs ys : List ℕ) → IsFront (d.ready xs) (d.ready (xs ++ ys))
-  pub within : (xs : List ℕ) → IsFront (d.ready xs) (d.whole xs)
-  pub stays : (xs ys : List ℕ) → d.refusal (xs ++ ys) ≡ None → d.refusal xs ≡ None
-  pub begins : d.refusal [] ≡ None
+-- Output that is due stays due and is a front of all output, and bytes that are refused are refused whatever follows them.
+pub record IsLawful {R C : Type 0} (b : Behavior R C) : Type 0 where
+  -- What is due only grows.
+  pub grows : (xs ys : List ℕ) → IsFront (b.ready xs) (b.ready (xs ++ ys))
+  -- What is due is a front of all.
+  pub within : (xs : List ℕ) → IsFront (b.ready xs) (b.whole xs)
+  -- Bytes with a front that is refused are refused.
+  pub stays : (xs ys : List ℕ) → b.refusal (xs ++ ys) ≡ None → b.refusal xs ≡ None
+  -- Nothing is not refused.
+  pub begins : b.refusal [] ≡ None

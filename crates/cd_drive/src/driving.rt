@@ -4,7 +4,8 @@ ghost use Rattle.std.specs.Prelude.{◌≡◌, ℕ, ◌+◌, ◌-◌, ◌≤◌,
 ghost use Rattle.std.specs.Io.KnownBytes.{IsAtEnd};
 ghost use Rattle.cd_ports.specs.Counter.{Rose, next_count};
 ghost use Rattle.cd_ports.specs.Writing.{OutputStep};
-ghost use Rattle.cd_drive.specs.Driving.{Took, TakesChunk, Reads, Drives, is_fault, is_read_fault, refused_or, IsSuited, IsDone};
+ghost use Rattle.cd_drive.specs.Driving.{Took, Drives, refused_or, IsAccepted, IsDone};
+ghost use Rattle.cd_drive.specs.Steps.{TakesChunk, Reads, is_fault, is_read_fault};
 
 use crate::machine::Machine;
 use crate::reading::read_front;
@@ -198,7 +199,7 @@ pub fn drive<S: Source, K: Sink, M: Machine + Drop>(
     ensures calls { (S.means src.new).calls ≤ (S.means src.old).calls + max_input + 1 }
 
     // Bytes that are wanted and not refused are done, unless memory runs out, where no count of faults rises.
-    ensures complete { (bytes : List ℕ) → (S.means src.old).left ≡ Some bytes → IsSuited (M.means machine) max_input bytes →
+    ensures complete { (bytes : List ℕ) → (S.means src.old).left ≡ Some bytes → IsAccepted (M.means machine) max_input bytes →
         ¬ Rose (S.means src.old).faults (S.means src.new).faults → ¬ Rose (K.means out.old).faults (K.means out.new).faults → IsDone result }
 {
     let mut machine = machine;

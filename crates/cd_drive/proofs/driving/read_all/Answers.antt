@@ -10,11 +10,13 @@ pub returns-in-Err-take_chunk-clause-reads : goal.returns-in-Err-take_chunk-clau
 returns-in-Err-take_chunk-clause-reads g c =
     reads_refused _ _ _ _ _ _ _ _ _ _ _ c.in-Err-take_chunk.field-0 (g.met.M.Machine.lawful c.args.machine.now) c.reads.invariant.flows
     (chunk_at _ _ _ _ (g.S.Source.means c.reads.src) (g.S.Source.means c.take_chunk.new.src) _ _ _ c.reads.invariant.same c.in-Err-take_chunk.ensures.step)
+    (omega (arith, c.take_chunk.ensures.calls, c.reads.invariant.calls, c.reads.invariant.flows.count))
 
 pub returns-in-Some-clause-reads : goal.returns-in-Some-clause-reads
 returns-in-Some-clause-reads g c =
     reads_stopped _ _ _ _ _ _ _ _ _ _ _ _ _ c.reads.invariant.flows
     (chunk_at _ _ _ _ (g.S.Source.means c.reads.src) (g.S.Source.means c.take_chunk.new.src) _ _ _ c.reads.invariant.same (rw c.in-Some.is at c.in-Ok-take_chunk.ensures.step))
+    (omega (arith, c.take_chunk.ensures.calls, c.reads.invariant.calls, c.reads.invariant.flows.count))
 
 pub returns-in-Err-write_ready-2-clause-reads : goal.returns-in-Err-write_ready-2-clause-reads
 returns-in-Err-write_ready-2-clause-reads g c =
@@ -22,6 +24,7 @@ returns-in-Err-write_ready-2-clause-reads g c =
     reads_cut _ _ _ _ (g.M.Machine.stands c.take_chunk.new.machine) _ _ _ _ _ _ _ _ _ _ c.reads.invariant.flows
     (chunk_at _ _ _ _ (g.S.Source.means c.reads.src) (g.S.Source.means c.take_chunk.new.src) _ _ _ c.reads.invariant.same (rw c.in-None.is at c.in-Ok-take_chunk.ensures.step))
     (writes_at _ _ _ _ _ _ same c.in-Err-write_ready-2.ensures.step)
+    (omega (arith, c.take_chunk.ensures.calls, c.reads.invariant.calls, c.reads.invariant.flows.count))
 
 pub reads-preserved : goal.reads-preserved
 reads-preserved g c =
