@@ -7,14 +7,14 @@ returns-in-Err-clause-drives g c = drives_cut _ _ _ _ _ _ _ _ (g.met.M.Machine.l
 pub returns-in-Err-finish-clause-drives : goal.returns-in-Err-finish-clause-drives
 returns-in-Err-finish-clause-drives g c = drives_unfinished _ _ _ _ _ _ _ _ (g.met.M.Machine.lawful c.args.machine) c.in-Ok.ensures.reads
 
-pub returns-in-Ok-put-clause-drives : goal.returns-in-Ok-put-clause-drives
-returns-in-Ok-put-clause-drives g c =
+pub returns-in-Ok-write_some-clause-drives : goal.returns-in-Ok-write_some-clause-drives
+returns-in-Ok-write_some-clause-drives g c =
     let e = c.in-Ok-finish.ensures in
     drives_whole _ _ _ _ _ _ _ _ _ _ _ (g.met.M.Machine.lawful c.args.machine) c.in-Ok.ensures.reads
-    (finishes_at _ _ _ _ _ c.in-Ok.ensures.same (e.output, e.counts)) (rw c.as_slice.ensures at c.in-Ok-put.ensures)
+    (finishes_at _ _ _ _ _ c.in-Ok.ensures.same (e.output, e.counts)) (rw c.as_slice.ensures at c.in-Ok-write_some.ensures)
 
-pub returns-in-Err-put-clause-drives : goal.returns-in-Err-put-clause-drives
-returns-in-Err-put-clause-drives g c =
+pub returns-in-Err-write_some-clause-drives : goal.returns-in-Err-write_some-clause-drives
+returns-in-Err-write_some-clause-drives g c =
     let e = c.in-Ok-finish.ensures in
     drives_refused _ _ _ _ _ _ _ _ _ _ _ _ (g.met.M.Machine.lawful c.args.machine) c.in-Ok.ensures.reads
-    (finishes_at _ _ _ _ _ c.in-Ok.ensures.same (e.output, e.counts)) (rw c.as_slice.ensures at c.in-Err-put.ensures)
+    (finishes_at _ _ _ _ _ c.in-Ok.ensures.same (e.output, e.counts)) (rw c.as_slice.ensures at c.in-Err-write_some.ensures)

@@ -1,6 +1,6 @@
 use Rattle.std.proofs.Common.{◌∙◌, arith, sym}
 use Rattle.cd_drive.proofs.Taking.{chunk_failed, chunk_refused, chunk_long}
-use Rattle.cd_drive.proofs.driving.take_chunk.Goals as goal
+use Rattle.cd_drive.proofs.chunk.take_chunk.Goals as goal
 
 pub returns-in-Err-clause-step : goal.returns-in-Err-clause-step
 returns-in-Err-clause-step g c = chunk_failed _ _ _ _ _ _ _ c.requires.some c.in-Err.ensures.ended c.in-Err.ensures.bytes
