@@ -1,5 +1,6 @@
 -- What a drive did, from what the reading did and the last write.
-use Rattle.std.proofs.Common.{◌≡◌, ℕ, ◌+◌, ◌-◌, ◌<◌, ◌≤◌, List, [], ◌++◌, length, take, drop, Option, Some, None, Result, Ok, Err, ap, sym, ◌∙◌, arith, subst, length-append, inl, inr, append_assoc}
+use Rattle.std.proofs.Common.{◌≡◌, ℕ, ◌+◌, ◌-◌, ◌<◌, ◌≤◌, List, [], ◌++◌, length, take, drop, Option, Some, None}
+use Rattle.std.proofs.Common.{Result, Ok, Err, ap, sym, ◌∙◌, arith, subst, length-append, inl, inr, append_assoc}
 use Rattle.std.proofs.lemmas.List.{append-nil, take-append-le, take-append-drop}
 use Rattle.cd_ports.proofs.Steps.{stopped}
 use Rattle.cd_ports.proofs.Outputs.{output_then, output_stop}
@@ -7,7 +8,7 @@ use Rattle.cd_ports.specs.Reading.{SourceMeaning}
 use Rattle.cd_ports.specs.Writing.{SinkMeaning, OutputStep, AppendsPrefix}
 use Rattle.cd_ports.specs.declared.sink.SinkFault.{SinkFault}
 use Rattle.cd_ports.specs.declared.sink.SinkFault.TheVariants as fault
-use Rattle.cd_drive.specs.Behaviors.{Behavior, IsLawful, IsFront}
+use Rattle.cd_drive.specs.Behaviors.{Behavior, IsLawful, IsFront, Histories}
 use Rattle.cd_drive.specs.Driving.{AppendsMore, ReadsInTime, Drives}
 use Rattle.cd_drive.specs.Steps.{Wrote, Reads}
 use Rattle.cd_drive.specs.declared.driving.Driven.{Driven}
@@ -46,8 +47,10 @@ due_early d max s0 s1 k0 k1 taken laws h many =
     ]
 
 -- the input was read in time, whatever is written after that
-reads_at : {R C : Type 0} (d : Behavior R C) (max : ℕ) (s0 s1 : SourceMeaning) (k0 k1 k2 : SinkMeaning) (taken output : List ℕ) →
-    (h : ReadsInTime d max s0 s1 k0 k1 taken) → Wrote k0 k1 (d.ready h.before) → AppendsPrefix k1.contents k2.contents output →
+reads_at : {R C : Type 0} (d : Behavior R C) (max : ℕ) (s0 s1 : SourceMeaning) (k0 k1 k2 : SinkMeaning)
+    (taken output : List ℕ) →
+    (h : ReadsInTime d max s0 s1 k0 k1 taken) → Wrote k0 k1 (d.ready h.before) →
+    AppendsPrefix k1.contents k2.contents output →
     ReadsInTime d max s0 s1 k0 k2 taken
 reads_at d max s0 s1 k0 k1 k2 taken output h wrote more = record {
   before = h.before;
@@ -62,15 +65,18 @@ reads_at d max s0 s1 k0 k1 k2 taken output h wrote more = record {
 }
 
 -- the bytes before the last read are a front of those taken, up to as many as are wanted
-ready_grows : {R C : Type 0} (d : Behavior R C) (max : ℕ) (s0 s1 : SourceMeaning) (k0 k1 : SinkMeaning) (taken : List ℕ) →
+ready_grows : {R C : Type 0} (d : Behavior R C) (max : ℕ) (s0 s1 : SourceMeaning) (k0 k1 : SinkMeaning)
+    (taken : List ℕ) →
     IsLawful d → (h : ReadsInTime d max s0 s1 k0 k1 taken) → IsFront (d.ready h.before) (d.ready (take max taken))
 ready_grows d max s0 s1 k0 k1 taken laws h =
     let P : List ℕ → Type 0 = λ t. IsFront (d.ready h.before) (d.ready (take max t)) in
     subst P (sym h.split) (due_grows d max h.before h.last laws h.within)
 
 -- memory ran out while reading, or a write was refused
-pub drives_cut : {R C : Type 0} (d : Behavior R C) (max : ℕ) (stands : List ℕ → List ℕ → Type 0) (s0 s1 : SourceMeaning) (k0 k1 : SinkMeaning) (e : SinkFault) → IsLawful d →
-    (let r : Result (Stop R) SinkFault = Err e in Reads d max stands s0 s1 k0 k1 r) → (let r : Result (Driven R C) SinkFault = Err e in Drives d max s0 s1 k0 k1 r)
+pub drives_cut : {R C : Type 0} (d : Behavior R C) (max : ℕ) (stands : Histories) (s0 s1 : SourceMeaning)
+    (k0 k1 : SinkMeaning) (e : SinkFault) → IsLawful d →
+    (let r : Result (Stop R) SinkFault = Err e in Reads d max stands s0 s1 k0 k1 r) →
+    (let r : Result (Driven R C) SinkFault = Err e in Drives d max s0 s1 k0 k1 r)
 drives_cut {R = R} {C = C} d max stands s0 s1 k0 k1 e laws h =
     let within = laws.within (take max h.taken) in
     let P : List ℕ → Type 0 = λ t. OutputStep k0 k1 (stopped (Driven R C) e) t in (
@@ -86,8 +92,10 @@ drives_cut {R = R} {C = C} d max stands s0 s1 k0 k1 e laws h =
     )
 
 -- memory ran out at the end
-pub drives_unfinished : {R C : Type 0} (d : Behavior R C) (max : ℕ) (stands : List ℕ → List ℕ → Type 0) (s0 s1 : SourceMeaning) (k0 k1 : SinkMeaning) (s : Stop R) → IsLawful d →
-    (let r : Result (Stop R) SinkFault = Ok s in Reads d max stands s0 s1 k0 k1 r) → (let r : Result (Driven R C) SinkFault = Err fault.NoMemory in Drives d max s0 s1 k0 k1 r)
+pub drives_unfinished : {R C : Type 0} (d : Behavior R C) (max : ℕ) (stands : Histories) (s0 s1 : SourceMeaning)
+    (k0 k1 : SinkMeaning) (s : Stop R) → IsLawful d →
+    (let r : Result (Stop R) SinkFault = Ok s in Reads d max stands s0 s1 k0 k1 r) →
+    (let r : Result (Driven R C) SinkFault = Err fault.NoMemory in Drives d max s0 s1 k0 k1 r)
 drives_unfinished {R = R} {C = C} d max stands s0 s1 k0 k1 s laws h =
     let used : List ℕ = take max h.taken in
     let front : IsFront (d.ready h.reads.before) (d.whole used) =
@@ -104,7 +112,9 @@ drives_unfinished {R = R} {C = C} d max stands s0 s1 k0 k1 s laws h =
     )
 
 -- the same output of an answer of any type
-output_ok : {T U : Type 0} (a b : SinkMeaning) (x : T) (y : U) (p : List ℕ) → (let r : Result T SinkFault = Ok x in OutputStep a b r p) → (let r : Result U SinkFault = Ok y in OutputStep a b r p)
+output_ok : {T U : Type 0} (a b : SinkMeaning) (x : T) (y : U) (p : List ℕ) →
+    (let r : Result T SinkFault = Ok x in OutputStep a b r p) →
+    (let r : Result U SinkFault = Ok y in OutputStep a b r p)
 output_ok a b x y p h = record {
   bytes = h.bytes;
   cause = record { later = h.cause.later; failed = λ e. absurd cc };
@@ -113,16 +123,21 @@ output_ok a b x y p h = record {
 }
 
 -- what the machine gives at the end, at what it means
-abbrev pub Finishes : {R C : Type 0} → Behavior R C → (List ℕ → List ℕ → Type 0) → List ℕ → C → Type 0
+abbrev pub Finishes : {R C : Type 0} → Behavior R C → Histories → List ℕ → C → Type 0
 Finishes d stands output counts =
     ((fed cleared : List ℕ) → stands fed cleared → cleared ++ output ≡ d.whole fed) × ((fed cleared : List ℕ) → stands fed cleared → counts ≡ d.counts fed)
 
-pub finishes_at : {R C : Type 0} (d e : Behavior R C) (stands : List ℕ → List ℕ → Type 0) (output : List ℕ) (counts : C) → d ≡ e → Finishes d stands output counts → Finishes e stands output counts
-finishes_at d e stands output counts same h = let P : Behavior _ _ → Type 0 = λ x. Finishes x stands output counts in subst P same h
+pub finishes_at : {R C : Type 0} (d e : Behavior R C) (stands : Histories) (output : List ℕ) (counts : C) → d ≡ e →
+    Finishes d stands output counts → Finishes e stands output counts
+finishes_at d e stands output counts same h =
+    let P : Behavior _ _ → Type 0 = λ x. Finishes x stands output counts in
+    subst P same h
 
 -- all is written
-pub drives_whole : {R C : Type 0} (d : Behavior R C) (max : ℕ) (stands : List ℕ → List ℕ → Type 0) (s0 s1 : SourceMeaning) (k0 k1 k2 : SinkMeaning) (s : Stop R) (output : List ℕ) (counts : C) → IsLawful d →
-    (let r : Result (Stop R) SinkFault = Ok s in Reads d max stands s0 s1 k0 k1 r) → Finishes d stands output counts → Wrote k1 k2 output →
+pub drives_whole : {R C : Type 0} (d : Behavior R C) (max : ℕ) (stands : Histories) (s0 s1 : SourceMeaning)
+    (k0 k1 k2 : SinkMeaning) (s : Stop R) (output : List ℕ) (counts : C) → IsLawful d →
+    (let r : Result (Stop R) SinkFault = Ok s in Reads d max stands s0 s1 k0 k1 r) →
+    Finishes d stands output counts → Wrote k1 k2 output →
     (let r : Result (Driven R C) SinkFault = Ok (record { stop = s; counts = counts }) in Drives d max s0 s1 k0 k2 r)
 drives_whole {R = R} {C = C} d max stands s0 s1 k0 k1 k2 s output counts laws h ends put =
     let reads = reads_at d max s0 s1 k0 k1 k2 h.taken output h.reads h.ending.2 (front_prefix k1.contents k2.contents output output put.bytes ([], sym (append-nil output))) in
@@ -143,8 +158,10 @@ drives_whole {R = R} {C = C} d max stands s0 s1 k0 k1 k2 s output counts laws h 
     )
 
 -- the last write was refused
-pub drives_refused : {R C : Type 0} (d : Behavior R C) (max : ℕ) (stands : List ℕ → List ℕ → Type 0) (s0 s1 : SourceMeaning) (k0 k1 k2 : SinkMeaning) (s : Stop R) (output : List ℕ) (counts : C) (e : SinkFault) → IsLawful d →
-    (let r : Result (Stop R) SinkFault = Ok s in Reads d max stands s0 s1 k0 k1 r) → Finishes d stands output counts → OutputStep k1 k2 (stopped (Unit {0}) e) output →
+pub drives_refused : {R C : Type 0} (d : Behavior R C) (max : ℕ) (stands : Histories) (s0 s1 : SourceMeaning)
+    (k0 k1 k2 : SinkMeaning) (s : Stop R) (output : List ℕ) (counts : C) (e : SinkFault) → IsLawful d →
+    (let r : Result (Stop R) SinkFault = Ok s in Reads d max stands s0 s1 k0 k1 r) →
+    Finishes d stands output counts → OutputStep k1 k2 (stopped (Unit {0}) e) output →
     (let r : Result (Driven R C) SinkFault = Err e in Drives d max s0 s1 k0 k2 r)
 drives_refused {R = R} {C = C} d max stands s0 s1 k0 k1 k2 s output counts e laws h ends put =
     let reads = reads_at d max s0 s1 k0 k1 k2 h.taken output h.reads h.ending.2 put.bytes in

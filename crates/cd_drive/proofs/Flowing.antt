@@ -1,5 +1,6 @@
 -- The state between two reads, and how the reading ends from there.
-use Rattle.std.proofs.Common.{◌≡◌, ℕ, ◌+◌, ◌-◌, ◌<◌, ◌≤◌, List, [], ◌++◌, length, take, Option, Some, None, Result, Ok, Err, refl, ap, sym, ◌∙◌, arith, subst, length-append, inl, inr}
+use Rattle.std.proofs.Common.{◌≡◌, ℕ, ◌+◌, ◌-◌, ◌<◌, ◌≤◌, List, [], ◌++◌, length, take, Option, Some, None, Result}
+use Rattle.std.proofs.Common.{Ok, Err, refl, ap, sym, ◌∙◌, arith, subst, length-append, inl, inr}
 use Rattle.std.proofs.lemmas.List.{take_all, append-nil}
 use Rattle.std.proofs.Math.Seq.{take-append_seam, take-append-add}
 use Rattle.std.specs.Io.KnownBytes.{Consumes, Appends}
@@ -9,17 +10,20 @@ use Rattle.cd_ports.specs.Reading.{SourceMeaning}
 use Rattle.cd_ports.specs.Writing.{SinkMeaning, OutputStep, AppendsPrefix}
 use Rattle.cd_ports.specs.declared.sink.SinkFault.{SinkFault}
 use Rattle.cd_ports.specs.declared.sink.SinkFault.TheVariants as fault
-use Rattle.cd_drive.specs.Behaviors.{Behavior, IsLawful, IsFront}
+use Rattle.cd_drive.specs.Behaviors.{Behavior, IsLawful, IsFront, Histories}
 use Rattle.cd_drive.specs.Driving.{Took, AppendsMore, ReadsInTime}
 use Rattle.cd_drive.specs.Steps.{TakesChunk, Wrote, Reads}
 use Rattle.cd_drive.specs.declared.driving.Stop.{Stop}
 
 -- a machine that stands so, and a call that writes what is ready
-abbrev pub WritesReady : {R C : Type 0} → Behavior R C → (List ℕ → List ℕ → Type 0) → SinkMeaning → SinkMeaning → Result (Unit {0}) SinkFault → Type 0
-WritesReady d stands k0 k1 r = (fed cleared : List ℕ) → stands fed cleared → (bytes : List ℕ) × (cleared ++ bytes ≡ d.ready fed) × OutputStep k0 k1 r bytes
+abbrev pub WritesReady : {R C : Type 0} → Behavior R C → Histories → SinkMeaning → SinkMeaning →
+    Result (Unit {0}) SinkFault → Type 0
+WritesReady d stands k0 k1 r =
+    (fed cleared : List ℕ) → stands fed cleared → (bytes : List ℕ) × (cleared ++ bytes ≡ d.ready fed) × OutputStep k0 k1 r bytes
 
 -- Between two reads all is written that is ready.
-pub record Flows {R C : Type 0} (d : Behavior R C) (max : ℕ) (stands : List ℕ → List ℕ → Type 0) (s0 s1 : SourceMeaning) (k0 k1 : SinkMeaning) (room : ℕ) : Type 0 where
+pub record Flows {R C : Type 0} (d : Behavior R C) (max : ℕ) (stands : Histories) (s0 s1 : SourceMeaning)
+    (k0 k1 : SinkMeaning) (room : ℕ) : Type 0 where
   pub taken : List ℕ
   pub took : Consumes s0.left s1.left taken
   pub count : length taken + room ≡ max + 1
@@ -49,7 +53,8 @@ front_prefix (Some xs) (Some ys) p q h k =
     (length p, h ∙ ap (λ t. xs ++ t) (sym (ap (λ t. take (length p) t) k.1 ∙ take-append_seam p k.0)))
 
 -- memory ran out after bytes that are a front of what is due
-pub wrote_stops : (T : Type 0) (k0 k1 : SinkMeaning) (p q : List ℕ) → Wrote k0 k1 p → IsFront p q → OutputStep k0 k1 (stopped T fault.NoMemory) q
+pub wrote_stops : (T : Type 0) (k0 k1 : SinkMeaning) (p q : List ℕ) → Wrote k0 k1 p → IsFront p q →
+    OutputStep k0 k1 (stopped T fault.NoMemory) q
 wrote_stops T k0 k1 p q h k = record {
   bytes = front_prefix k0.contents k1.contents p q h.bytes k;
   cause = record { later = h.cause.later; failed = λ e. absurd cc };
@@ -76,7 +81,8 @@ none_taken : (max : ℕ) → let none : List ℕ = [] in take max none ≡ none
 none_taken max = let none : List ℕ = [] in take_all max none (omega arith)
 
 -- memory ran out before anything was read
-pub reads_none : {R C : Type 0} (d : Behavior R C) (max : ℕ) (stands : List ℕ → List ℕ → Type 0) (s : SourceMeaning) (k : SinkMeaning) → IsLawful d →
+pub reads_none : {R C : Type 0} (d : Behavior R C) (max : ℕ) (stands : Histories) (s : SourceMeaning)
+    (k : SinkMeaning) → IsLawful d →
     Reads d max stands s s k k (Err fault.NoMemory)
 reads_none d max stands s k laws = record {
   taken = [];
@@ -86,7 +92,8 @@ reads_none d max stands s k laws = record {
 }
 
 -- the first write was refused
-pub reads_unwritten : {R C : Type 0} (d : Behavior R C) (max : ℕ) (so sn : List ℕ → List ℕ → Type 0) (s : SourceMeaning) (k0 k1 : SinkMeaning) (e : SinkFault) → IsLawful d → so [] [] →
+pub reads_unwritten : {R C : Type 0} (d : Behavior R C) (max : ℕ) (so sn : Histories) (s : SourceMeaning)
+    (k0 k1 : SinkMeaning) (e : SinkFault) → IsLawful d → so [] [] →
     WritesReady d so k0 k1 (Err e) → Reads d max sn s s k0 k1 (Err e)
 reads_unwritten d max so sn s k0 k1 e laws fresh writes =
     let w = writes [] [] fresh in
@@ -99,8 +106,10 @@ reads_unwritten d max so sn s k0 k1 e laws fresh writes =
     }
 
 -- before the first read
-pub flows_first : {R C : Type 0} (d : Behavior R C) (max : ℕ) (so sn : List ℕ → List ℕ → Type 0) (s : SourceMeaning) (k0 k1 : SinkMeaning) → IsLawful d → so [] [] →
-    WritesReady d so k0 k1 (Ok tt) → ((fed cleared : List ℕ) → so fed cleared → sn fed (d.ready fed)) → Flows d max sn s s k0 k1 (max + 1)
+pub flows_first : {R C : Type 0} (d : Behavior R C) (max : ℕ) (so sn : Histories) (s : SourceMeaning)
+    (k0 k1 : SinkMeaning) → IsLawful d → so [] [] →
+    WritesReady d so k0 k1 (Ok tt) → ((fed cleared : List ℕ) → so fed cleared → sn fed (d.ready fed)) →
+    Flows d max sn s s k0 k1 (max + 1)
 flows_first d max so sn s k0 k1 laws fresh writes history =
     let w = writes [] [] fresh in
     let P : List ℕ → Type 0 = λ t. Wrote k0 k1 t in
@@ -115,20 +124,23 @@ flows_first d max so sn s k0 k1 laws fresh writes history =
     }
 
 -- the same, of a machine that does the same
-pub chunk_at : {R C E : Type 0} (d e : Behavior R C) (so sn : List ℕ → List ℕ → Type 0) (s1 s2 : SourceMeaning) (room left : ℕ) (r : Result (Option (Stop R)) E) → d ≡ e →
+pub chunk_at : {R C E : Type 0} (d e : Behavior R C) (so sn : Histories) (s1 s2 : SourceMeaning) (room left : ℕ)
+    (r : Result (Option (Stop R)) E) → d ≡ e →
     Took s1 s2 (TakesChunk d so sn s2.ended room left r) → Took s1 s2 (TakesChunk e so sn s2.ended room left r)
 chunk_at d e so sn s1 s2 room left r same h =
     let P : Behavior _ _ → Type 0 = λ x. Took s1 s2 (TakesChunk x so sn s2.ended room left r) in
     subst P same h
 
-pub writes_at : {R C : Type 0} (d e : Behavior R C) (stands : List ℕ → List ℕ → Type 0) (k0 k1 : SinkMeaning) (r : Result (Unit {0}) SinkFault) → d ≡ e →
+pub writes_at : {R C : Type 0} (d e : Behavior R C) (stands : Histories) (k0 k1 : SinkMeaning)
+    (r : Result (Unit {0}) SinkFault) → d ≡ e →
     WritesReady d stands k0 k1 r → WritesReady e stands k0 k1 r
 writes_at d e stands k0 k1 r same h =
     let P : Behavior _ _ → Type 0 = λ x. WritesReady x stands k0 k1 r in
     subst P same h
 
 -- the last read took these bytes, after others
-pub record ReadsLast {R C : Type 0} (d : Behavior R C) (max room left : ℕ) (s0 s2 : SourceMeaning) (k0 k2 : SinkMeaning) (taken bytes : List ℕ) : Type 0 where
+pub record ReadsLast {R C : Type 0} (d : Behavior R C) (max room left : ℕ) (s0 s2 : SourceMeaning)
+    (k0 k2 : SinkMeaning) (taken bytes : List ℕ) : Type 0 where
   pub count : length taken + room ≡ max + 1
   pub some : 0 < room
   pub unsaid : d.refusal taken ≡ None
@@ -138,7 +150,8 @@ pub record ReadsLast {R C : Type 0} (d : Behavior R C) (max room left : ℕ) (s0
   pub written : AppendsMore k0.contents k2.contents (d.ready taken)
 
 -- the input was read in time where it was so up to the last read
-last_reads : {R C : Type 0} (d : Behavior R C) (max room left : ℕ) (s0 s2 : SourceMeaning) (k0 k2 : SinkMeaning) (taken bytes : List ℕ) →
+last_reads : {R C : Type 0} (d : Behavior R C) (max room left : ℕ) (s0 s2 : SourceMeaning) (k0 k2 : SinkMeaning)
+    (taken bytes : List ℕ) →
     ReadsLast d max room left s0 s2 k0 k2 taken bytes → ReadsInTime d max s0 s2 k0 k2 (taken ++ bytes)
 last_reads d max room left s0 s2 k0 k2 taken bytes h = record {
   before = taken;
@@ -153,7 +166,8 @@ last_reads d max room left s0 s2 k0 k2 taken bytes h = record {
 }
 
 -- what is due grows with the bytes taken
-pub due_grows : {R C : Type 0} (d : Behavior R C) (max : ℕ) (taken bytes : List ℕ) → IsLawful d → length taken ≤ max → IsFront (d.ready taken) (d.ready (take max (taken ++ bytes)))
+pub due_grows : {R C : Type 0} (d : Behavior R C) (max : ℕ) (taken bytes : List ℕ) → IsLawful d →
+    length taken ≤ max → IsFront (d.ready taken) (d.ready (take max (taken ++ bytes)))
 due_grows d max taken bytes laws few =
     let rest : max ≡ length taken + (max - length taken) = omega arith in
     let split : take max (taken ++ bytes) ≡ taken ++ take (max - length taken) bytes =
@@ -162,8 +176,10 @@ due_grows d max taken bytes laws few =
     subst P (sym split) (laws.grows taken (take (max - length taken) bytes))
 
 -- memory ran out
-pub reads_refused : {R C E : Type 0} (d : Behavior R C) (max : ℕ) (so sn : List ℕ → List ℕ → Type 0) (s0 s1 s2 : SourceMeaning) (k0 k1 : SinkMeaning) (room left : ℕ) (e : E) → IsLawful d →
-    (h : Flows d max so s0 s1 k0 k1 room) → (let r : Result (Option (Stop R)) E = Err e in Took s1 s2 (TakesChunk d so sn s2.ended room left r)) →
+pub reads_refused : {R C E : Type 0} (d : Behavior R C) (max : ℕ) (so sn : Histories) (s0 s1 s2 : SourceMeaning)
+    (k0 k1 : SinkMeaning) (room left : ℕ) (e : E) → IsLawful d →
+    (h : Flows d max so s0 s1 k0 k1 room) →
+    (let r : Result (Option (Stop R)) E = Err e in Took s1 s2 (TakesChunk d so sn s2.ended room left r)) →
     s2.calls ≤ s0.calls + length h.taken + 1 → Reads d max sn s0 s2 k0 k1 (Err fault.NoMemory)
 reads_refused d max so sn s0 s1 s2 k0 k1 room left e laws h step calls =
     let few : length h.taken ≤ max = omega (arith, h.count, h.some) in
@@ -183,8 +199,10 @@ reads_refused d max so sn s0 s1 s2 k0 k1 room left e laws h step calls =
     }
 
 -- something ended the input
-pub reads_stopped : {R C : Type 0} (E : Type 0) (d : Behavior R C) (max : ℕ) (so sn : List ℕ → List ℕ → Type 0) (s0 s1 s2 : SourceMeaning) (k0 k1 : SinkMeaning) (room left : ℕ) (s : Stop R) →
-    (h : Flows d max so s0 s1 k0 k1 room) → (let r : Result (Option (Stop R)) E = Ok (Some s) in Took s1 s2 (TakesChunk d so sn s2.ended room left r)) →
+pub reads_stopped : {R C : Type 0} (E : Type 0) (d : Behavior R C) (max : ℕ) (so sn : Histories)
+    (s0 s1 s2 : SourceMeaning) (k0 k1 : SinkMeaning) (room left : ℕ) (s : Stop R) →
+    (h : Flows d max so s0 s1 k0 k1 room) →
+    (let r : Result (Option (Stop R)) E = Ok (Some s) in Took s1 s2 (TakesChunk d so sn s2.ended room left r)) →
     s2.calls ≤ s0.calls + length h.taken + 1 → Reads d max sn s0 s2 k0 k1 (Ok s)
 unfolding last_reads
 reads_stopped E d max so sn s0 s1 s2 k0 k1 room left s h step calls =
@@ -205,13 +223,15 @@ reads_stopped E d max so sn s0 s1 s2 k0 k1 room left s h step calls =
     }
 
 -- a chunk was taken, and nothing ends the input
-pub record Goes {R C : Type 0} (d : Behavior R C) (max : ℕ) (stands : List ℕ → List ℕ → Type 0) (taken bytes : List ℕ) : Type 0 where
+pub record Goes {R C : Type 0} (d : Behavior R C) (max : ℕ) (stands : Histories) (taken bytes : List ℕ) : Type 0 where
   pub unsaid : d.refusal (taken ++ bytes) ≡ None
   pub few : length (taken ++ bytes) ≤ max
   pub history : stands (taken ++ bytes) (d.ready taken)
 
-goes : {R C : Type 0} (E : Type 0) (d : Behavior R C) (max : ℕ) (so sn : List ℕ → List ℕ → Type 0) (s0 s1 s2 : SourceMeaning) (k0 k1 : SinkMeaning) (room left : ℕ) →
-    (h : Flows d max so s0 s1 k0 k1 room) → (step : let r : Result (Option (Stop R)) E = Ok None in Took s1 s2 (TakesChunk d so sn s2.ended room left r)) →
+goes : {R C : Type 0} (E : Type 0) (d : Behavior R C) (max : ℕ) (so sn : Histories) (s0 s1 s2 : SourceMeaning)
+    (k0 k1 : SinkMeaning) (room left : ℕ) →
+    (h : Flows d max so s0 s1 k0 k1 room) →
+    (step : let r : Result (Option (Stop R)) E = Ok None in Took s1 s2 (TakesChunk d so sn s2.ended room left r)) →
     Goes d max sn h.taken step.0
 goes E d max so sn s0 s1 s2 k0 k1 room left h step =
     let j = step.2.judges max h.taken (d.ready h.taken) h.count h.history h.unsaid in
@@ -223,8 +243,10 @@ goes E d max so sn s0 s1 s2 k0 k1 room left h step =
     }
 
 -- a write between two reads was refused
-pub reads_cut : {R C : Type 0} (E : Type 0) (d : Behavior R C) (max : ℕ) (so sm sn : List ℕ → List ℕ → Type 0) (s0 s1 s2 : SourceMeaning) (k0 k1 k2 : SinkMeaning) (room left : ℕ) (e : SinkFault) →
-    (h : Flows d max so s0 s1 k0 k1 room) → (let r : Result (Option (Stop R)) E = Ok None in Took s1 s2 (TakesChunk d so sm s2.ended room left r)) →
+pub reads_cut : {R C : Type 0} (E : Type 0) (d : Behavior R C) (max : ℕ) (so sm sn : Histories)
+    (s0 s1 s2 : SourceMeaning) (k0 k1 k2 : SinkMeaning) (room left : ℕ) (e : SinkFault) →
+    (h : Flows d max so s0 s1 k0 k1 room) →
+    (let r : Result (Option (Stop R)) E = Ok None in Took s1 s2 (TakesChunk d so sm s2.ended room left r)) →
     WritesReady d sm k1 k2 (Err e) → s2.calls ≤ s0.calls + length h.taken + 1 → Reads d max sn s0 s2 k0 k2 (Err e)
 reads_cut E d max so sm sn s0 s1 s2 k0 k1 k2 room left e h step writes calls =
     let g = goes E d max so sm s0 s1 s2 k0 k1 room left h step in
@@ -247,9 +269,11 @@ reads_cut E d max so sm sn s0 s1 s2 k0 k1 k2 room left e h step writes calls =
     }
 
 -- before the next read
-pub flows_next : {R C : Type 0} (E : Type 0) (d : Behavior R C) (max : ℕ) (so sm sn : List ℕ → List ℕ → Type 0) (s0 s1 s2 : SourceMeaning) (k0 k1 k2 : SinkMeaning) (room left : ℕ) →
+pub flows_next : {R C : Type 0} (E : Type 0) (d : Behavior R C) (max : ℕ) (so sm sn : Histories)
+    (s0 s1 s2 : SourceMeaning) (k0 k1 k2 : SinkMeaning) (room left : ℕ) →
     Flows d max so s0 s1 k0 k1 room → (let r : Result (Option (Stop R)) E = Ok None in Took s1 s2 (TakesChunk d so sm s2.ended room left r)) →
-    WritesReady d sm k1 k2 (Ok tt) → ((fed cleared : List ℕ) → sm fed cleared → sn fed (d.ready fed)) → Flows d max sn s0 s2 k0 k2 left
+    WritesReady d sm k1 k2 (Ok tt) → ((fed cleared : List ℕ) → sm fed cleared → sn fed (d.ready fed)) →
+    Flows d max sn s0 s2 k0 k2 left
 flows_next E d max so sm sn s0 s1 s2 k0 k1 k2 room left h step writes history =
     let g = goes E d max so sm s0 s1 s2 k0 k1 room left h step in
     let w = writes (h.taken ++ step.0) (d.ready h.taken) g.history in

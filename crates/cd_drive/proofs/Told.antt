@@ -9,13 +9,15 @@ use Rattle.cd_drive.specs.Behaviors.{Behavior}
 use Rattle.cd_drive.specs.Driving.{Drives, DrivesOn, DrivesTold, IsTaken}
 use Rattle.cd_drive.specs.declared.driving.Driven.{Driven}
 
-taken_is : (old new : SourceMeaning) (t taken : List ℕ) → Consumes old.left new.left t → IsTaken old new taken → t ≡ taken
+taken_is : (old new : SourceMeaning) (t taken : List ℕ) → Consumes old.left new.left t → IsTaken old new taken →
+    t ≡ taken
 taken_is old new t taken took is =
     let P : Option (List ℕ) → Type 0 = λ o. Consumes o new.left t in
     let Q : Option (List ℕ) → Type 0 = λ o. Consumes (Some (taken ++ is.left)) o t in
     append_cancel_right t taken is.left (sym (subst Q is.now (subst P is.before took)))
 
-pub drives_told : {R C : Type 0} (d : Behavior R C) (max : ℕ) (s0 s1 : SourceMeaning) (k0 k1 : SinkMeaning) (r : Result (Driven R C) SinkFault) →
+pub drives_told : {R C : Type 0} (d : Behavior R C) (max : ℕ) (s0 s1 : SourceMeaning) (k0 k1 : SinkMeaning)
+    (r : Result (Driven R C) SinkFault) →
     Drives d max s0 s1 k0 k1 r → DrivesTold d max s0 s1 k0 k1 r
 drives_told d max s0 s1 k0 k1 r h = λ taken is.
     let P : List ℕ → Type 0 = λ t. DrivesOn d max s0 s1 k0 k1 r t in

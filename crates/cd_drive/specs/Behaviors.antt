@@ -14,11 +14,16 @@ pub record Behavior (R C : Type 0) : Type 0 where
   -- what is counted in them
   pub counts : List ℕ → C
 
+-- which histories a machine stands for, by all bytes fed and all output that was cleared
+abbrev pub Histories : Type 1
+Histories = List ℕ → List ℕ → Type 0
+
 -- the first is a front of the second
 abbrev pub IsFront : List ℕ → List ℕ → Type 0
 IsFront front bytes = (rest : List ℕ) × (bytes ≡ front ++ rest)
 
--- Output that is due stays due and is a front of all output, and bytes that are refused are refused whatever follows them.
+-- Output that is due stays due and is a front of all output, and bytes that are refused are refused whatever
+-- follows them.
 pub record IsLawful {R C : Type 0} (b : Behavior R C) : Type 0 where
   -- What is due only grows.
   pub grows : (xs ys : List ℕ) → IsFront (b.ready xs) (b.ready (xs ++ ys))

@@ -16,8 +16,8 @@ abbrev pub refused_or : {R : Type 0} → Option R → Stop R → Stop R
 refused_or (Some refusal) other = stop.Refused refusal
 refused_or None other = other
 
--- What ended the input of which these bytes were taken: a refusal of them, or of the first `max` where more were taken; else
--- the byte too many; else the end that the source told; else a fault of the source.
+-- What ended the input of which these bytes were taken: a refusal of them, or of the first `max` where more were
+-- taken; else the byte too many; else the end that the source told; else a fault of the source.
 abbrev pub stopped_by : {R C : Type 0} → Behavior R C → ℕ → List ℕ → Bool → Stop R
 stopped_by b max taken told_end =
     refused_or (b.refusal (take max taken))
@@ -39,9 +39,10 @@ pub record IsUnasked (old new : SourceMeaning) (taken : List ℕ) : Type 0 where
   pub source : new ≡ old
   pub none : taken ≡ []
 
--- The input was read in time, and no read came before the output that was due by then. The last read took `last`, and those
--- before it took `before`.
-pub record ReadsInTime {R C : Type 0} (b : Behavior R C) (max : ℕ) (src_old src_new : SourceMeaning) (out_old out_new : SinkMeaning) (taken : List ℕ) : Type 0 where
+-- The input was read in time, and no read came before the output that was due by then. The last read took `last`,
+-- and those before it took `before`.
+pub record ReadsInTime {R C : Type 0} (b : Behavior R C) (max : ℕ) (src_old src_new : SourceMeaning)
+    (out_old out_new : SinkMeaning) (taken : List ℕ) : Type 0 where
   pub before : List ℕ
   pub last : List ℕ
   pub split : taken ≡ before ++ last
@@ -58,12 +59,14 @@ pub record ReadsInTime {R C : Type 0} (b : Behavior R C) (max : ℕ) (src_old sr
   pub written : IsUnasked src_old src_new taken ⊎ AppendsMore out_old.contents out_new.contents (b.ready before)
 
 -- These bytes were taken, and the answer and the output are theirs.
-pub record DrivesOn {R C : Type 0} (b : Behavior R C) (max : ℕ) (src_old src_new : SourceMeaning) (out_old out_new : SinkMeaning) (result : Result (Driven R C) SinkFault) (taken : List ℕ) : Type 0 where
+pub record DrivesOn {R C : Type 0} (b : Behavior R C) (max : ℕ) (src_old src_new : SourceMeaning)
+    (out_old out_new : SinkMeaning) (result : Result (Driven R C) SinkFault) (taken : List ℕ) : Type 0 where
   pub reads : ReadsInTime b max src_old src_new out_old out_new taken
   -- What ended the input is what the bytes taken say.
   pub stop : IfOk result (λ driven. driven.stop ≡ stopped_by b max taken src_new.ended)
   pub counts : IfOk result (λ driven. driven.counts ≡ b.counts (take max taken))
-  -- All output was written, or a front of it at an `Err`. The sink failed in the call exactly where the answer is that it did.
+  -- All output was written, or a front of it at an `Err`. The sink failed in the call exactly where the answer is
+  -- that it did.
   pub output : OutputStep out_old out_new result (b.whole (take max taken))
   -- What was due before the last 65,536 bytes was written in any case.
   pub early : 65536 < length taken →

@@ -41,8 +41,8 @@ fn stop_at_end<M: Machine>(machine: &M) -> Stop<M::Refusal>
     }
 }
 
-/// Takes one chunk, at most as many bytes as there is room for, and answers what ends the input, where something does. The
-/// last byte that there is room for is one too many: the machine is not fed it.
+/// Takes one chunk, at most as many bytes as there is room for, and answers what ends the input, where something
+/// does. The last byte that there is room for is one too many: the machine is not fed it.
 pub(crate) fn take_chunk<S: Source, M: Machine>(
     src: &mut S,
     chunk: &mut Vec<u8>,

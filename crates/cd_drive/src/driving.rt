@@ -48,7 +48,8 @@ fn read_all<S: Source, K: Sink, M: Machine>(
     ensures reads { Reads (M.means machine.old) max_input (M.stands machine.new)
         (S.means src.old) (S.means src.new) (K.means out.old) (K.means out.new) result }
     ensures same { OnOk result (M.means machine.new ≡ M.means machine.old) }
-    ensures read_fault { IfOk result (λ s. s ≡ Stop.ReadFault → Rose (S.means src.old).faults (S.means src.new).faults) }
+    ensures read_fault { IfOk result (λ s. s ≡ Stop.ReadFault →
+        Rose (S.means src.old).faults (S.means src.new).faults) }
     ensures failed { IfOk result (λ s. (S.means src.old).failed ≡ false → (S.means src.new).failed ≡ true →
         s ≡ Stop.ReadFault) }
     ensures late { (S.means src.old).failed ≡ false → (S.means src.new).late ≡ (S.means src.old).late }
@@ -84,7 +85,8 @@ fn read_all<S: Source, K: Sink, M: Machine>(
 /// something ended the input. A buffer of 65,536 bytes, or of what is missing to `max_input + 1` where that is less, is
 /// offered to each read. At most `max_input + 1` bytes are taken, and the machine is fed the first `max_input` of them.
 ///
-/// An `Err` says that the sink failed or that no memory was found; then a front of the output is written, and nothing more.
+/// An `Err` says that the sink failed or that no memory was found; then a front of the output is written, and
+/// nothing more.
 pub fn drive<S: Source, K: Sink, M: Machine + Drop>(
     alloc: Global,
     max_input: u64,
@@ -95,8 +97,8 @@ pub fn drive<S: Source, K: Sink, M: Machine + Drop>(
     requires small { max_input < 2 ^ 64 - 1 }
     requires space { max_input ≤ M.space machine }
     requires fresh { M.stands machine [] [] }
-    // The answer, the counts and the output are those of the bytes taken, what is ready before a read is written before it,
-    // and a fault of the sink outranks all but want of memory.
+    // The answer, the counts and the output are those of the bytes taken, what is ready before a read is written
+    // before it, and a fault of the sink outranks all but want of memory.
     ensures drives { Drives (M.means machine) max_input
         (S.means src.old) (S.means src.new) (K.means out.old) (K.means out.new) result }
 

@@ -14,9 +14,9 @@ pub struct Finished<C> {
     pub counts: C,
 }
 
-/// Makes bytes of bytes that it is fed in chunks. To a contract it means a `Behavior`, and it stands for each history of it:
-/// the bytes fed, and the output that was ready and is cleared. An `Err` of any call says that no memory was found; the
-/// machine stands for no history then, and is of no more use.
+/// Makes bytes of bytes that it is fed in chunks. To a contract it means a `Behavior`, and it stands for each
+/// history of it: the bytes fed, and the output that was ready and is cleared. An `Err` of any call says that no
+/// memory was found; the machine stands for no history then, and is of no more use.
 pub trait Machine {
     ghost use Rattle.cd_drive.specs.Behaviors.{Behavior, IsLawful};
 

@@ -19,7 +19,8 @@ fn read_slice<S: Source>(src: &mut S, chunk: &mut [u8], most: u64) -> Result<usi
     ensures ended { (S.means src.new).ended ≡ is_end result }
     ensures failed { (S.means src.new).failed ≡ ((S.means src.old).failed || is_err result) }
     ensures calls { (S.means src.new).calls ≡ next_count (S.means src.old).calls }
-    ensures late { (S.means src.new).late ≡ ((S.means src.old).late || ((S.means src.old).failed && gives_byte result)) }
+    ensures late { (S.means src.new).late ≡
+        ((S.means src.old).late || ((S.means src.old).failed && gives_byte result)) }
 {
     let room = if most < chunk.len() as u64 {
         most as usize
@@ -40,7 +41,8 @@ pub fn read_front<S: Source>(src: &mut S, chunk: &mut Vec<u8>, most: u64) -> Res
     ensures ended { (S.means src.new).ended ≡ is_end result }
     ensures failed { (S.means src.new).failed ≡ ((S.means src.old).failed || is_err result) }
     ensures calls { (S.means src.new).calls ≡ next_count (S.means src.old).calls }
-    ensures late { (S.means src.new).late ≡ ((S.means src.old).late || ((S.means src.old).failed && gives_byte result)) }
+    ensures late { (S.means src.new).late ≡
+        ((S.means src.old).late || ((S.means src.old).failed && gives_byte result)) }
 {
     read_slice(src, chunk.as_mut_slice(), most)
 }

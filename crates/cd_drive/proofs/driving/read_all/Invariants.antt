@@ -9,7 +9,8 @@ invariant-reads g l =
     let now = g.S.Source.means l.src in
     record {
       buffer : length l.chunk.items ≡ 65536;
-      flows : Flows (m.means l.fn.machine) l.max_input (m.stands l.machine) old now (g.K.Sink.means l.fn.out) (g.K.Sink.means l.out) l.room;
+      flows : Flows (m.means l.fn.machine) l.max_input (m.stands l.machine) old now
+          (g.K.Sink.means l.fn.out) (g.K.Sink.means l.out) l.room;
       same : m.means l.machine ≡ m.means l.fn.machine;
       space : l.room ≤ m.space l.machine + 1;
       later : old.faults ≤ now.faults;
