@@ -13,7 +13,7 @@ use Rattle.cd_drive.specs.Driving.{AppendsMore, ReadsInTime, Drives}
 use Rattle.cd_drive.specs.Steps.{Wrote, Reads}
 use Rattle.cd_drive.specs.declared.driving.Driven.{Driven}
 use Rattle.cd_drive.specs.declared.driving.Stop.{Stop}
-use Rattle.cd_drive.proofs.Flowing.{wrote_stops, due_grows, front_prefix, more_then}
+use Rattle.cd_drive.proofs.BetweenReads.{wrote_stops, due_grows, front_prefix, more_then}
 
 -- a front of a front is one
 front_then : (p q r : List ℕ) → IsFront p q → IsFront q r → IsFront p r
@@ -23,8 +23,11 @@ front_then p q r h k = (h.0 ++ k.0, k.1 ∙ ap (λ t. t ++ k.0) h.1 ∙ append_a
 more_front : (a b : Option (List ℕ)) (p q : List ℕ) → IsFront p q → AppendsMore a b q → AppendsMore a b p
 more_front None b p q k h = tt
 more_front (Some xs) None p q k h = absurd h
-more_front (Some xs) (Some ys) p q k h =
-    (k.0 ++ h.0, h.1 ∙ ap (λ t. xs ++ t ++ h.0) k.1 ∙ ap (λ t. t ++ h.0) (sym (append_assoc xs p k.0)) ∙ append_assoc (xs ++ p) k.0 h.0)
+more_front (Some xs) (Some ys) p q k h = (
+  k.0 ++ h.0,
+  h.1 ∙ ap (λ t. xs ++ t ++ h.0) k.1 ∙ ap (λ t. t ++ h.0) (sym (append_assoc xs p k.0)) ∙
+      append_assoc (xs ++ p) k.0 h.0,
+)
 
 -- what is due before the last 65,536 bytes is due before the last read
 due_early : {R C : Type 0} (d : Behavior R C) (max : ℕ) (s0 s1 : SourceMeaning) (k0 k1 : SinkMeaning) (taken : List ℕ) →
@@ -34,7 +37,8 @@ due_early d max s0 s1 k0 k1 taken laws h many =
     elim h.written [
       | inl unasked ↦ let zero : length taken ≡ 0 = ap length unasked.none in absurd (omega (arith, zero, many))
       | inr more ↦
-          let size : length taken ≡ length h.before + length h.last = ap length h.split ∙ length-append h.before h.last in
+          let size : length taken ≡ length h.before + length h.last =
+          ap length h.split ∙ length-append h.before h.last in
           let k : ℕ = length taken - 65536 in
           let few : k ≤ length h.before = omega (arith, size, h.chunk) in
           let same : take k taken ≡ take k h.before =
@@ -43,7 +47,8 @@ due_early d max s0 s1 k0 k1 taken laws h many =
           let front : IsFront (d.ready (take k h.before)) (d.ready h.before) =
           subst P (take-append-drop k h.before) (laws.grows (take k h.before) (drop k h.before)) in
           let Q : List ℕ → Type 0 = λ t. AppendsMore k0.contents k1.contents (d.ready t) in
-          subst Q (sym same) (more_front k0.contents k1.contents (d.ready (take k h.before)) (d.ready h.before) front more)
+          subst Q (sym same)
+          (more_front k0.contents k1.contents (d.ready (take k h.before)) (d.ready h.before) front more)
     ]
 
 -- the input was read in time, whatever is written after that
@@ -86,7 +91,8 @@ drives_cut {R = R} {C = C} d max stands s0 s1 k0 k1 e laws h =
         reads = h.reads;
         stop = tt;
         counts = tt;
-        output = subst P (sym within.1) (output_stop (Unit {0}) (Driven R C) k0 k1 e (d.ready (take max h.taken)) within.0 h.ending);
+        output = subst P (sym within.1)
+            (output_stop (Unit {0}) (Driven R C) k0 k1 e (d.ready (take max h.taken)) within.0 h.ending);
         early = due_early d max s0 s1 k0 k1 h.taken laws h.reads;
       },
     )
@@ -99,7 +105,8 @@ pub drives_unfinished : {R C : Type 0} (d : Behavior R C) (max : ℕ) (stands : 
 drives_unfinished {R = R} {C = C} d max stands s0 s1 k0 k1 s laws h =
     let used : List ℕ = take max h.taken in
     let front : IsFront (d.ready h.reads.before) (d.whole used) =
-    front_then (d.ready h.reads.before) (d.ready used) (d.whole used) (ready_grows d max s0 s1 k0 k1 h.taken laws h.reads) (laws.within used) in (
+    front_then (d.ready h.reads.before) (d.ready used) (d.whole used)
+    (ready_grows d max s0 s1 k0 k1 h.taken laws h.reads) (laws.within used) in (
       h.taken,
       h.took,
       record {
@@ -125,8 +132,10 @@ output_ok a b x y p h = record {
 -- what the machine gives at the end, at what it means
 abbrev pub Finishes : {R C : Type 0} → Behavior R C → Histories → List ℕ → C → Type 0
 Finishes d stands output counts =
-    ((fed cleared : List ℕ) → stands fed cleared → cleared ++ output ≡ d.whole fed) × ((fed cleared : List ℕ) → stands fed cleared → counts ≡ d.counts fed)
+    ((fed cleared : List ℕ) → stands fed cleared → cleared ++ output ≡ d.whole fed)
+    × ((fed cleared : List ℕ) → stands fed cleared → counts ≡ d.counts fed)
 
+-- the same, of a machine that does the same
 pub finishes_at : {R C : Type 0} (d e : Behavior R C) (stands : Histories) (output : List ℕ) (counts : C) → d ≡ e →
     Finishes d stands output counts → Finishes e stands output counts
 finishes_at d e stands output counts same h =
@@ -140,7 +149,8 @@ pub drives_whole : {R C : Type 0} (d : Behavior R C) (max : ℕ) (stands : Histo
     Finishes d stands output counts → Wrote k1 k2 output →
     (let r : Result (Driven R C) SinkFault = Ok (record { stop = s; counts = counts }) in Drives d max s0 s1 k0 k2 r)
 drives_whole {R = R} {C = C} d max stands s0 s1 k0 k1 k2 s output counts laws h ends put =
-    let reads = reads_at d max s0 s1 k0 k1 k2 h.taken output h.reads h.ending.2 (front_prefix k1.contents k2.contents output output put.bytes ([], sym (append-nil output))) in
+    let more = front_prefix k1.contents k2.contents output output put.bytes ([], sym (append-nil output)) in
+    let reads = reads_at d max s0 s1 k0 k1 k2 h.taken output h.reads h.ending.2 more in
     let used : List ℕ = take max h.taken in
     let written : Result (Unit {0}) SinkFault = Ok tt in
     let done : Result (Driven R C) SinkFault = Ok (record { stop = s; counts = counts }) in
@@ -152,7 +162,8 @@ drives_whole {R = R} {C = C} d max stands s0 s1 k0 k1 k2 s output counts laws h 
         reads = reads;
         stop = h.ending.0;
         counts = ends.1 used (d.ready h.reads.before) h.ending.1;
-        output = subst P (ends.0 used (d.ready h.reads.before) h.ending.1) (output_ok k0 k2 tt (record { stop = s; counts = counts }) (d.ready h.reads.before ++ output) all);
+        output = subst P (ends.0 used (d.ready h.reads.before) h.ending.1)
+            (output_ok k0 k2 tt (record { stop = s; counts = counts }) (d.ready h.reads.before ++ output) all);
         early = due_early d max s0 s1 k0 k2 h.taken laws reads;
       },
     )
@@ -175,7 +186,9 @@ drives_refused {R = R} {C = C} d max stands s0 s1 k0 k1 k2 s output counts e law
         reads = reads;
         stop = tt;
         counts = tt;
-        output = subst P (append-nil (d.ready h.reads.before ++ output) ∙ ends.0 used (d.ready h.reads.before) h.ending.1) typed;
+        output =
+            subst P (append-nil (d.ready h.reads.before ++ output) ∙ ends.0 used (d.ready h.reads.before) h.ending.1)
+            typed;
         early = due_early d max s0 s1 k0 k2 h.taken laws reads;
       },
     )

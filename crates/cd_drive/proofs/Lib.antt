@@ -1,5 +1,5 @@
 pub mod Stops
 pub mod Taking
-pub mod Flowing
+pub mod BetweenReads
 pub mod Finishing
 pub mod Told

@@ -40,5 +40,6 @@ front_grown max room n used taken items count some is =
     cut : (m k u : ℕ) (xs : List ℕ) → u ≡ min k m → take m (take k xs) ≡ take u xs
     cut m k u xs e = elim (cases_lt m k) [
       | inl less ↦ let same : u ≡ m = omega arith in take-take m k xs (omega arith) ∙ ap (λ j. take j xs) (sym same)
-      | inr more ↦ let same : u ≡ k = omega arith in take_all m (take k xs) (omega (arith, length-take k xs)) ∙ ap (λ j. take j xs) (sym same)
+      | inr more ↦ let same : u ≡ k = omega arith in
+          take_all m (take k xs) (omega (arith, length-take k xs)) ∙ ap (λ j. take j xs) (sym same)
     ]

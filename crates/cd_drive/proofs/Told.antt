@@ -9,6 +9,7 @@ use Rattle.cd_drive.specs.Behaviors.{Behavior}
 use Rattle.cd_drive.specs.Driving.{Drives, DrivesOn, DrivesTold, IsTaken}
 use Rattle.cd_drive.specs.declared.driving.Driven.{Driven}
 
+-- the bytes that the call took are those that the source has lost
 taken_is : (old new : SourceMeaning) (t taken : List ℕ) → Consumes old.left new.left t → IsTaken old new taken →
     t ≡ taken
 taken_is old new t taken took is =
@@ -16,6 +17,7 @@ taken_is old new t taken took is =
     let Q : Option (List ℕ) → Type 0 = λ o. Consumes (Some (taken ++ is.left)) o t in
     append_cancel_right t taken is.left (sym (subst Q is.now (subst P is.before took)))
 
+-- so the answer and the output are those of the bytes that it has lost
 pub drives_told : {R C : Type 0} (d : Behavior R C) (max : ℕ) (s0 s1 : SourceMeaning) (k0 k1 : SinkMeaning)
     (r : Result (Driven R C) SinkFault) →
     Drives d max s0 s1 k0 k1 r → DrivesTold d max s0 s1 k0 k1 r

@@ -65,8 +65,8 @@ pub record DrivesOn {R C : Type 0} (b : Behavior R C) (max : ℕ) (src_old src_n
   -- What ended the input is what the bytes taken say.
   pub stop : IfOk result (λ driven. driven.stop ≡ stopped_by b max taken src_new.ended)
   pub counts : IfOk result (λ driven. driven.counts ≡ b.counts (take max taken))
-  -- All output was written, or a front of it at an `Err`. The sink failed in the call exactly where the answer is
-  -- that it did.
+  -- All output was written, or a front of it at an `Err`. A fault of the sink outranks all else but want of memory: a
+  -- sink that had not failed before the call has failed after it exactly where the answer says so.
   pub output : OutputStep out_old out_new result (b.whole (take max taken))
   -- What was due before the last 65,536 bytes was written in any case.
   pub early : 65536 < length taken →

@@ -3,7 +3,7 @@
 ghost use Rattle.std.specs.Prelude.{◌≡◌, ℕ, ◌+◌, ◌-◌, ◌≤◌, ◌<◌, ◌^◌, List, [], length, IfOk, OnOk, Some, true, false};
 ghost use Rattle.std.specs.Io.KnownBytes.{IsAtEnd};
 ghost use Rattle.cd_ports.specs.Counter.{Rose};
-ghost use Rattle.cd_drive.specs.Driving.{Drives, IsAccepted, IsDone};
+ghost use Rattle.cd_drive.specs.Driving.{Drives, DrivesTold, IsAccepted, IsDone};
 ghost use Rattle.cd_drive.specs.Steps.{Reads};
 
 use crate::chunk::{chunk_buffer, take_chunk};
@@ -100,6 +100,9 @@ pub fn drive<S: Source, K: Sink, M: Machine + Drop>(
     // The answer, the counts and the output are those of the bytes taken, what is ready before a read is written
     // before it, and a fault of the sink outranks all but want of memory.
     ensures drives { Drives (M.means machine) max_input
+        (S.means src.old) (S.means src.new) (K.means out.old) (K.means out.new) result }
+    // The same of the bytes that a source which tells has lost.
+    ensures told { DrivesTold (M.means machine) max_input
         (S.means src.old) (S.means src.new) (K.means out.old) (K.means out.new) result }
 
     // Done comes only where the source told its end, and nothing is left then.

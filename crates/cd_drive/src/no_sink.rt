@@ -1,10 +1,10 @@
-//! A sink for a call that writes nothing.
+//! A sink for a machine without output.
 
 ghost use Rattle.std.specs.Prelude.{◌≡◌, IsOk};
 
 use cd_ports::{Sink, SinkFault};
 
-/// Takes bytes and drops them. It doesn't tell what it holds, and never fails.
+/// Drops the bytes that it takes. It tells no bytes, and never fails.
 #[derive(Drop)]
 pub struct NoSink;
 

@@ -8,7 +8,7 @@ ghost use Rattle.cd_drive.specs.Chunks.{is_end, IsWithin};
 
 use cd_ports::{Failed, Source};
 
-// Reads into the front of a slice, at most some bytes.
+// Reads at most `most` bytes into the front of a slice.
 #[tactic(auto, using(std::proofs::lemmas::List::take_at, std::proofs::lemmas::List::take_min))]
 fn read_slice<S: Source>(src: &mut S, chunk: &mut [u8], most: u64) -> Result<usize, Failed>
     requires some { 0 < most }
@@ -30,7 +30,8 @@ fn read_slice<S: Source>(src: &mut S, chunk: &mut [u8], most: u64) -> Result<usi
     src.read(&mut chunk[..room])
 }
 
-/// Reads into the front of a buffer, at most some bytes.
+/// Reads at most `most` bytes into the front of a buffer, and answers how many: 0 where the source tells its end. At an
+/// `Err` no byte was taken.
 pub fn read_front<S: Source>(src: &mut S, chunk: &mut Vec<u8>, most: u64) -> Result<usize, Failed>
     requires some { 0 < most }
     requires room { 0 < length chunk.old.items }

@@ -3,7 +3,8 @@ use Rattle.cd_drive.proofs.Taking.{chunk_failed, chunk_refused, chunk_long}
 use Rattle.cd_drive.proofs.chunk.take_chunk.Goals as goal
 
 pub returns-in-Err-clause-step : goal.returns-in-Err-clause-step
-returns-in-Err-clause-step g c = chunk_failed _ _ _ _ _ _ _ c.requires.some c.in-Err.ensures.ended c.in-Err.ensures.bytes
+returns-in-Err-clause-step g c =
+    chunk_failed _ _ _ _ _ _ _ c.requires.some c.in-Err.ensures.ended c.in-Err.ensures.bytes
 
 pub returns-in-Some-clause-step : goal.returns-in-Some-clause-step
 returns-in-Some-clause-step g c =

@@ -1,5 +1,5 @@
 use Rattle.std.proofs.Common.{◌≡◌, ◌+◌, ◌≤◌, false, length}
-use Rattle.cd_drive.proofs.Flowing.{Flows}
+use Rattle.cd_drive.proofs.BetweenReads.{BetweenReads}
 use Rattle.cd_drive.proofs.driving.read_all.Given as goal
 
 abbrev pub invariant-reads : goal.invariant-reads
@@ -9,7 +9,7 @@ invariant-reads g l =
     let now = g.S.Source.means l.src in
     record {
       buffer : length l.chunk.items ≡ 65536;
-      flows : Flows (m.means l.fn.machine) l.max_input (m.stands l.machine) old now
+      between : BetweenReads (m.means l.fn.machine) l.max_input (m.stands l.machine) old now
           (g.K.Sink.means l.fn.out) (g.K.Sink.means l.out) l.room;
       same : m.means l.machine ≡ m.means l.fn.machine;
       space : l.room ≤ m.space l.machine + 1;

@@ -19,17 +19,18 @@ use Rattle.cd_drive.specs.declared.driving.Stop.{Stop}
 abbrev pub WritesReady : {R C : Type 0} → Behavior R C → Histories → SinkMeaning → SinkMeaning →
     Result (Unit {0}) SinkFault → Type 0
 WritesReady d stands k0 k1 r =
-    (fed cleared : List ℕ) → stands fed cleared → (bytes : List ℕ) × (cleared ++ bytes ≡ d.ready fed) × OutputStep k0 k1 r bytes
+    (fed cleared : List ℕ) → stands fed cleared →
+    (bytes : List ℕ) × (cleared ++ bytes ≡ d.ready fed) × OutputStep k0 k1 r bytes
 
 -- Between two reads all is written that is ready.
-pub record Flows {R C : Type 0} (d : Behavior R C) (max : ℕ) (stands : Histories) (s0 s1 : SourceMeaning)
+pub record BetweenReads {R C : Type 0} (d : Behavior R C) (max : ℕ) (stands : Histories) (s0 s1 : SourceMeaning)
     (k0 k1 : SinkMeaning) (room : ℕ) : Type 0 where
   pub taken : List ℕ
   pub took : Consumes s0.left s1.left taken
   pub count : length taken + room ≡ max + 1
   pub some : 0 < room
   pub history : stands taken (d.ready taken)
-  pub unsaid : d.refusal taken ≡ None
+  pub unrefused : d.refusal taken ≡ None
   pub output : Wrote k0 k1 (d.ready taken)
 
 -- bytes that grow by these grow by these at least
@@ -77,6 +78,7 @@ start_reads d max s k0 k1 laws = record {
   written = inl (record { source = refl; none = refl });
 }
 
+-- nothing of nothing is wanted
 none_taken : (max : ℕ) → let none : List ℕ = [] in take max none ≡ none
 none_taken max = let none : List ℕ = [] in take_all max none (omega arith)
 
@@ -88,7 +90,8 @@ reads_none d max stands s k laws = record {
   taken = [];
   took = consumes_none s.left s.left (keeps_same s.left);
   reads = start_reads d max s k k laws;
-  ending = wrote_stops (Unit {0}) k k [] (d.ready (take max [])) (output_none (Unit {0}) k tt) (d.ready (take max []), refl);
+  ending = wrote_stops (Unit {0}) k k [] (d.ready (take max [])) (output_none (Unit {0}) k tt)
+      (d.ready (take max []), refl);
 }
 
 -- the first write was refused
@@ -106,11 +109,11 @@ reads_unwritten d max so sn s k0 k1 e laws fresh writes =
     }
 
 -- before the first read
-pub flows_first : {R C : Type 0} (d : Behavior R C) (max : ℕ) (so sn : Histories) (s : SourceMeaning)
+pub between_first : {R C : Type 0} (d : Behavior R C) (max : ℕ) (so sn : Histories) (s : SourceMeaning)
     (k0 k1 : SinkMeaning) → IsLawful d → so [] [] →
     WritesReady d so k0 k1 (Ok tt) → ((fed cleared : List ℕ) → so fed cleared → sn fed (d.ready fed)) →
-    Flows d max sn s s k0 k1 (max + 1)
-flows_first d max so sn s k0 k1 laws fresh writes history =
+    BetweenReads d max sn s s k0 k1 (max + 1)
+between_first d max so sn s k0 k1 laws fresh writes history =
     let w = writes [] [] fresh in
     let P : List ℕ → Type 0 = λ t. Wrote k0 k1 t in
     record {
@@ -119,7 +122,7 @@ flows_first d max so sn s k0 k1 laws fresh writes history =
       count = omega arith;
       some = omega arith;
       history = history [] [] fresh;
-      unsaid = laws.begins;
+      unrefused = laws.begins;
       output = subst P w.1 w.2;
     }
 
@@ -131,6 +134,7 @@ chunk_at d e so sn s1 s2 room left r same h =
     let P : Behavior _ _ → Type 0 = λ x. Took s1 s2 (TakesChunk x so sn s2.ended room left r) in
     subst P same h
 
+-- and of a call that writes what is ready
 pub writes_at : {R C : Type 0} (d e : Behavior R C) (stands : Histories) (k0 k1 : SinkMeaning)
     (r : Result (Unit {0}) SinkFault) → d ≡ e →
     WritesReady d stands k0 k1 r → WritesReady e stands k0 k1 r
@@ -143,7 +147,7 @@ pub record ReadsLast {R C : Type 0} (d : Behavior R C) (max room left : ℕ) (s0
     (k0 k2 : SinkMeaning) (taken bytes : List ℕ) : Type 0 where
   pub count : length taken + room ≡ max + 1
   pub some : 0 < room
-  pub unsaid : d.refusal taken ≡ None
+  pub unrefused : d.refusal taken ≡ None
   pub small : length bytes ≤ 65536
   pub fits : left + length bytes ≡ room
   pub calls : s2.calls ≤ s0.calls + length taken + 1
@@ -158,7 +162,7 @@ last_reads d max room left s0 s2 k0 k2 taken bytes h = record {
   last = bytes;
   split = refl;
   chunk = h.small;
-  undecided = h.unsaid;
+  undecided = h.unrefused;
   within = omega (arith, h.count, h.some);
   few = omega (arith, length-append taken bytes, h.count, h.fits);
   calls = h.calls;
@@ -178,7 +182,7 @@ due_grows d max taken bytes laws few =
 -- memory ran out
 pub reads_refused : {R C E : Type 0} (d : Behavior R C) (max : ℕ) (so sn : Histories) (s0 s1 s2 : SourceMeaning)
     (k0 k1 : SinkMeaning) (room left : ℕ) (e : E) → IsLawful d →
-    (h : Flows d max so s0 s1 k0 k1 room) →
+    (h : BetweenReads d max so s0 s1 k0 k1 room) →
     (let r : Result (Option (Stop R)) E = Err e in Took s1 s2 (TakesChunk d so sn s2.ended room left r)) →
     s2.calls ≤ s0.calls + length h.taken + 1 → Reads d max sn s0 s2 k0 k1 (Err fault.NoMemory)
 reads_refused d max so sn s0 s1 s2 k0 k1 room left e laws h step calls =
@@ -189,31 +193,32 @@ reads_refused d max so sn s0 s1 s2 k0 k1 room left e laws h step calls =
       reads = last_reads d max room left s0 s2 k0 k1 h.taken step.0 (record {
         count = h.count;
         some = h.some;
-        unsaid = h.unsaid;
+        unrefused = h.unrefused;
         small = step.2.small;
         fits = step.2.room;
         calls = calls;
         written = appends_more k0.contents k1.contents (d.ready h.taken) h.output.bytes;
       });
-      ending = wrote_stops (Unit {0}) k0 k1 (d.ready h.taken) (d.ready (take max (h.taken ++ step.0))) h.output (due_grows d max h.taken step.0 laws few);
+      ending = wrote_stops (Unit {0}) k0 k1 (d.ready h.taken) (d.ready (take max (h.taken ++ step.0))) h.output
+          (due_grows d max h.taken step.0 laws few);
     }
 
 -- something ended the input
 pub reads_stopped : {R C : Type 0} (E : Type 0) (d : Behavior R C) (max : ℕ) (so sn : Histories)
     (s0 s1 s2 : SourceMeaning) (k0 k1 : SinkMeaning) (room left : ℕ) (s : Stop R) →
-    (h : Flows d max so s0 s1 k0 k1 room) →
+    (h : BetweenReads d max so s0 s1 k0 k1 room) →
     (let r : Result (Option (Stop R)) E = Ok (Some s) in Took s1 s2 (TakesChunk d so sn s2.ended room left r)) →
     s2.calls ≤ s0.calls + length h.taken + 1 → Reads d max sn s0 s2 k0 k1 (Ok s)
 unfolding last_reads
 reads_stopped E d max so sn s0 s1 s2 k0 k1 room left s h step calls =
-    let j = step.2.judges max h.taken (d.ready h.taken) h.count h.history h.unsaid in
+    let j = step.2.judges max h.taken (d.ready h.taken) h.count h.history h.unrefused in
     record {
       taken = h.taken ++ step.0;
       took = consumes_then s0.left s1.left s2.left h.taken step.0 h.took step.1;
       reads = last_reads d max room left s0 s2 k0 k1 h.taken step.0 (record {
         count = h.count;
         some = h.some;
-        unsaid = h.unsaid;
+        unrefused = h.unrefused;
         small = step.2.small;
         fits = step.2.room;
         calls = calls;
@@ -223,21 +228,22 @@ reads_stopped E d max so sn s0 s1 s2 k0 k1 room left s h step calls =
     }
 
 -- a chunk was taken, and nothing ends the input
-pub record Goes {R C : Type 0} (d : Behavior R C) (max : ℕ) (stands : Histories) (taken bytes : List ℕ) : Type 0 where
-  pub unsaid : d.refusal (taken ++ bytes) ≡ None
+pub record GoesOn {R C : Type 0} (d : Behavior R C) (max : ℕ) (stands : Histories) (taken bytes : List ℕ) : Type 0 where
+  pub unrefused : d.refusal (taken ++ bytes) ≡ None
   pub few : length (taken ++ bytes) ≤ max
   pub history : stands (taken ++ bytes) (d.ready taken)
 
-goes : {R C : Type 0} (E : Type 0) (d : Behavior R C) (max : ℕ) (so sn : Histories) (s0 s1 s2 : SourceMeaning)
+-- the bytes taken so far and the chunk go on
+goes_on : {R C : Type 0} (E : Type 0) (d : Behavior R C) (max : ℕ) (so sn : Histories) (s0 s1 s2 : SourceMeaning)
     (k0 k1 : SinkMeaning) (room left : ℕ) →
-    (h : Flows d max so s0 s1 k0 k1 room) →
+    (h : BetweenReads d max so s0 s1 k0 k1 room) →
     (step : let r : Result (Option (Stop R)) E = Ok None in Took s1 s2 (TakesChunk d so sn s2.ended room left r)) →
-    Goes d max sn h.taken step.0
-goes E d max so sn s0 s1 s2 k0 k1 room left h step =
-    let j = step.2.judges max h.taken (d.ready h.taken) h.count h.history h.unsaid in
+    GoesOn d max sn h.taken step.0
+goes_on E d max so sn s0 s1 s2 k0 k1 room left h step =
+    let j = step.2.judges max h.taken (d.ready h.taken) h.count h.history h.unrefused in
     let P : List ℕ → Type 0 = λ t. sn t (d.ready h.taken) in
     record {
-      unsaid = j.1.0;
+      unrefused = j.1.0;
       few = j.1.1;
       history = subst P (take_all max (h.taken ++ step.0) j.1.1) j.0;
     }
@@ -245,11 +251,11 @@ goes E d max so sn s0 s1 s2 k0 k1 room left h step =
 -- a write between two reads was refused
 pub reads_cut : {R C : Type 0} (E : Type 0) (d : Behavior R C) (max : ℕ) (so sm sn : Histories)
     (s0 s1 s2 : SourceMeaning) (k0 k1 k2 : SinkMeaning) (room left : ℕ) (e : SinkFault) →
-    (h : Flows d max so s0 s1 k0 k1 room) →
+    (h : BetweenReads d max so s0 s1 k0 k1 room) →
     (let r : Result (Option (Stop R)) E = Ok None in Took s1 s2 (TakesChunk d so sm s2.ended room left r)) →
     WritesReady d sm k1 k2 (Err e) → s2.calls ≤ s0.calls + length h.taken + 1 → Reads d max sn s0 s2 k0 k2 (Err e)
 reads_cut E d max so sm sn s0 s1 s2 k0 k1 k2 room left e h step writes calls =
-    let g = goes E d max so sm s0 s1 s2 k0 k1 room left h step in
+    let g = goes_on E d max so sm s0 s1 s2 k0 k1 room left h step in
     let w = writes (h.taken ++ step.0) (d.ready h.taken) g.history in
     let P : List ℕ → Type 0 = λ t. OutputStep k0 k2 (stopped (Unit {0}) e) t in
     record {
@@ -258,7 +264,7 @@ reads_cut E d max so sm sn s0 s1 s2 k0 k1 k2 room left e h step writes calls =
       reads = last_reads d max room left s0 s2 k0 k2 h.taken step.0 (record {
         count = h.count;
         some = h.some;
-        unsaid = h.unsaid;
+        unrefused = h.unrefused;
         small = step.2.small;
         fits = step.2.room;
         calls = calls;
@@ -269,13 +275,14 @@ reads_cut E d max so sm sn s0 s1 s2 k0 k1 k2 room left e h step writes calls =
     }
 
 -- before the next read
-pub flows_next : {R C : Type 0} (E : Type 0) (d : Behavior R C) (max : ℕ) (so sm sn : Histories)
+pub between_next : {R C : Type 0} (E : Type 0) (d : Behavior R C) (max : ℕ) (so sm sn : Histories)
     (s0 s1 s2 : SourceMeaning) (k0 k1 k2 : SinkMeaning) (room left : ℕ) →
-    Flows d max so s0 s1 k0 k1 room → (let r : Result (Option (Stop R)) E = Ok None in Took s1 s2 (TakesChunk d so sm s2.ended room left r)) →
+    BetweenReads d max so s0 s1 k0 k1 room →
+    (let r : Result (Option (Stop R)) E = Ok None in Took s1 s2 (TakesChunk d so sm s2.ended room left r)) →
     WritesReady d sm k1 k2 (Ok tt) → ((fed cleared : List ℕ) → sm fed cleared → sn fed (d.ready fed)) →
-    Flows d max sn s0 s2 k0 k2 left
-flows_next E d max so sm sn s0 s1 s2 k0 k1 k2 room left h step writes history =
-    let g = goes E d max so sm s0 s1 s2 k0 k1 room left h step in
+    BetweenReads d max sn s0 s2 k0 k2 left
+between_next E d max so sm sn s0 s1 s2 k0 k1 k2 room left h step writes history =
+    let g = goes_on E d max so sm s0 s1 s2 k0 k1 room left h step in
     let w = writes (h.taken ++ step.0) (d.ready h.taken) g.history in
     let P : List ℕ → Type 0 = λ t. Wrote k0 k2 t in
     let size : length (h.taken ++ step.0) ≡ length h.taken + length step.0 = length-append h.taken step.0 in
@@ -285,6 +292,6 @@ flows_next E d max so sm sn s0 s1 s2 k0 k1 k2 room left h step writes history =
       count = omega (arith, size, h.count, step.2.room);
       some = omega (arith, size, h.count, step.2.room, g.few);
       history = history (h.taken ++ step.0) (d.ready h.taken) g.history;
-      unsaid = g.unsaid;
+      unrefused = g.unrefused;
       output = subst P w.1 (output_then k0 k1 k2 tt (Ok tt) (d.ready h.taken) w.0 h.output w.2);
     }
