@@ -1,0 +1,5 @@
+pub mod Stops
+pub mod Taking
+pub mod BetweenReads
+pub mod Finishing
+pub mod Told
