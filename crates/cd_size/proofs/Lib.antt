@@ -1,0 +1,4 @@
+mod Totals
+mod Arrays
+mod Visits
+mod Blocks
