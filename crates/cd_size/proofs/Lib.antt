@@ -2,3 +2,10 @@ mod Totals
 mod Arrays
 mod Visits
 mod Blocks
+mod Fits
+mod SignatureRanges
+mod Parts
+mod Lists
+mod Halves
+mod Items
+mod Runs

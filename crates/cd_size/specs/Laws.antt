@@ -7,7 +7,7 @@ use Rattle.cd_block.specs.Tables.{indexed, tables_of}
 use Rattle.cd_block.specs.Traversal.{visited}
 use Rattle.cd_file.specs.Files.{block_spelling}
 use Rattle.cd_hints.specs.Records.{RecordParts}
-use Rattle.cd_record.specs.Blocks.{HaveKinds, kept_block}
+use Rattle.cd_record.specs.Blocks.{kept_block}
 use Rattle.cd_record.specs.Runs.{run_weight}
 use Rattle.cd_size.specs.Ranges.{RecordInRange}
 use Rattle.cd_size.specs.Costs.{item_cost, malformed_cost}
@@ -17,7 +17,7 @@ abbrev pub KeptBlocksAreShort : Type 0
 KeptBlocksAreShort = (b : KeptBlock) → length (block_spelling (indexed b)) ≤
     205 + (sum_by (item_cost (tables_of (visited b))) b.items + sum_by (malformed_cost (tables_of (visited b))) b.malformed)
 
--- the block of a run takes at most the weight of the run and 1,024 bytes
+-- the block of a run takes at most the weight of the run and 1,024 bytes, whatever the parameters are
 abbrev pub BlocksAreLight : Type 0
-BlocksAreLight = (p : Params) (run : List RecordParts) → HaveKinds run → All RecordInRange run →
+BlocksAreLight = (p : Params) (run : List RecordParts) → All RecordInRange run →
     length (block_spelling (indexed (kept_block p run))) ≤ run_weight run + 1024
