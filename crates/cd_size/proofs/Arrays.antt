@@ -1,9 +1,8 @@
 -- How long arrays are, by the sizes of their items.
 use Rattle.std.proofs.Common.{◌≡◌, ℕ, zero, suc, ◌+◌, ◌*◌, ◌<◌, ◌≤◌, true, nat_lt, List, [], ◌∷◌, length, map, Option, Some, None, refl, sym, arith, length-append}
-use Rattle.std.specs.Option.{option_map}
 use Rattle.std.proofs.lemmas.List.{length-map}
 use Rattle.cd_cbor.specs.declared.item.Item.{Item}
-use Rattle.cd_cbor.specs.Items.{unsigned, bytes, array}
+use Rattle.cd_cbor.specs.Items.{unsigned, array}
 use Rattle.cd_cbor.specs.Spelling.{head, spelling, spelling_all}
 use Rattle.cd_cbor.proofs.Spelled.{spelling_unsigned, spelling_array}
 use Rattle.cd_file.specs.Maps.{optional_map, optional_array, entries_count, entry_spelling, entries_spelling}

@@ -1,25 +1,22 @@
 -- A kept block takes at most 205 bytes, and the costs of its items and of its malformed messages.
-use Rattle.std.proofs.Common.{◌≡◌, ℕ, ◌+◌, ◌≤◌, true, nat_lt, List, [], ◌∷◌, length, map, Option, Some, None, refl, arith}
-use Rattle.std.specs.Option.{option_map}
+use Rattle.std.proofs.Common.{◌≡◌, ℕ, ◌+◌, ◌≤◌, true, nat_lt, List, [], ◌∷◌, length, map, Option, refl, arith}
 use Rattle.std.specs.List.{flat_map, sum_by}
 use Rattle.std.proofs.lemmas.List.Sums.{sum_by-cons}
 use Rattle.cd_cbor.specs.declared.item.Item.{Item}
 use Rattle.cd_cbor.specs.Items.{bytes, unsigned}
-use Rattle.cd_cbor.specs.Spelling.{spelling}
 use Rattle.cd_file.specs.Maps.{numbers, optional_array, entry_spelling, entries_spelling}
-use Rattle.cd_file.specs.Tables.{classtype_item, signature_item, question_item, rr_item, malformed_data_item, table_entries, tables_item}
-use Rattle.cd_file.specs.Blocks.{stamp_item, block_preamble_item, statistics_item, query_response_item, malformed_item, block_item}
+use Rattle.cd_file.specs.Tables.{classtype_item, signature_item, question_item, rr_item, malformed_data_item, table_entries}
+use Rattle.cd_file.specs.Blocks.{stamp_item, block_preamble_item, statistics_item, query_response_item, malformed_item}
 use Rattle.cd_file.specs.Files.{block_spelling}
 use Rattle.cd_file.proofs.Sizes.{map_short, entries_more, entries_end, entry_short}
 use Rattle.cd_file.proofs.MapSizes.{statistics_short}
-use Rattle.cd_block.specs.declared.block.Block.{Block}
 use Rattle.cd_block.specs.declared.kept.KeptBlock.{KeptBlock}
 use Rattle.cd_block.specs.declared.stamp.Stamp.{Stamp}
-use Rattle.cd_block.specs.Tables.{KeptTables, tables_of, question_index, record_index, indexed_signature, indexed_question, indexed_record, indexed_data, indexed_item, indexed_malformed, indexed_in, indexed}
+use Rattle.cd_block.specs.Tables.{KeptTables, tables_of, question_index, record_index, indexed_signature, indexed_question, indexed_record, indexed_data, indexed_item, indexed_malformed, indexed_in}
 use Rattle.cd_block.specs.Traversal.{Visited, visited, visited_item, visited_malformed}
-use Rattle.cd_size.specs.Costs.{size, value_size, item_cost, malformed_cost}
+use Rattle.cd_size.specs.Costs.{size, value_size}
 use Rattle.cd_size.specs.Laws.{KeptBlocksAreShort}
-use Rattle.cd_size.proofs.Totals.{total, sum_is_total, total_append, total_flat_map, total_map, total_plus}
+use Rattle.cd_size.proofs.Totals.{total, sum_is_total, total_append, total_flat_map, total_map}
 use Rattle.cd_size.proofs.Arrays.{array_short, numbers_total, entry_there, optional_array_short, optional_map_short}
 use Rattle.cd_size.proofs.Visits.{tables_size, tables_within}
 
@@ -56,7 +53,7 @@ tables_short t b =
 -- a block with some tables
 block_within : (t : KeptTables) (b : KeptBlock) → length (block_spelling (indexed_in t b)) ≤
     205 + (tables_size t t + (total (λ i. size (query_response_item (indexed_item t i))) b.items
-        + total (λ m. size (malformed_item (indexed_malformed t m))) b.malformed))
+    + total (λ m. size (malformed_item (indexed_malformed t m))) b.malformed))
 unfolding block_spelling indexed_in
 block_within t b =
     let lengths = entries_more _ _ _ _ _ (entry_there 0 29 (block_preamble_item b.earliest) refl (preamble_short b.earliest))

@@ -1,11 +1,10 @@
 -- What a query and a response of an item cost: at most 195 bytes less than their message weighs.
-use Rattle.std.proofs.Common.{◌≡◌, ℕ, ◌+◌, ◌*◌, ◌<◌, ◌≤◌, Bool, true, false, not, List, [], ◌∷◌, length, Option, Some, None, refl, arith}
-use Rattle.std.specs.Prelude.{⊤, IfSome, if◌then◌else◌, option_and_then, slice_get}
-use Rattle.std.specs.List.{All, AllByRecursion, filter, find}
+use Rattle.std.proofs.Common.{ℕ, ◌+◌, ◌≤◌, Bool, true, false, not, List, [], ◌∷◌, length, Option, Some, None, arith}
+use Rattle.std.specs.Prelude.{IfSome, if◌then◌else◌, option_and_then, slice_get}
+use Rattle.std.specs.List.{All, AllByRecursion, find}
 use Rattle.std.specs.Option.{option_map, option_map_or, option_or}
 use Rattle.std.proofs.lemmas.List.Elements.{All-head}
 use Rattle.cd_name.specs.Names.{IsName}
-use Rattle.cd_file.specs.Ranges.{ClasstypeInRange}
 use Rattle.cd_file.specs.Tables.{classtype_item}
 use Rattle.cd_file.proofs.MapSizes.{classtype_short}
 use Rattle.cd_block.specs.declared.hints.TheConstants as hint

@@ -1,7 +1,7 @@
 -- What the item of a record costs: at most 195 bytes beside its query and its response.
-use Rattle.std.proofs.Common.{◌≡◌, ℕ, ◌+◌, ◌*◌, ◌<◌, ◌≤◌, List, [], ◌∷◌, ◌++◌, length, Option, Some, None, refl, arith}
-use Rattle.std.specs.Prelude.{⊤, IfSome, option_and_then}
-use Rattle.std.specs.Option.{option_map, option_map_or, option_or}
+use Rattle.std.proofs.Common.{◌+◌, ◌<◌, ◌≤◌, ◌++◌, length, Some, arith}
+use Rattle.std.specs.Prelude.{IfSome, option_and_then}
+use Rattle.std.specs.Option.{option_map}
 use Rattle.cd_file.specs.Ranges.{ItemInRange}
 use Rattle.cd_file.proofs.MapSizes.{item_short}
 use Rattle.cd_block.specs.declared.hints.TheConstants as hint
@@ -20,7 +20,7 @@ use Rattle.cd_size.proofs.Fits.{MessageIsFit}
 use Rattle.cd_size.proofs.SignatureRanges.{IsFit, kept_within, mapped, signature_in_range}
 use Rattle.cd_size.proofs.Parts.{cost, stored_short, kept_cost, address_cost, signature_cost}
 use Rattle.cd_size.proofs.Lists.{lists_cost}
-use Rattle.cd_size.proofs.Halves.{query_cost, response_cost, first_of, opt_of, lead_share, first_question_fits, either_fits, either_share, first_of_message, lead_cost, opt_cost}
+use Rattle.cd_size.proofs.Halves.{query_cost, response_cost, first_of, opt_of, first_question_fits, either_fits, either_share, first_of_message, lead_cost, opt_cost}
 
 -- an item's number of two bytes, and its byte
 item_in_range : (t : KeptTables) (p : Params) (earliest : Stamp) (r : RecordParts) → IsFit r → ItemInRange (indexed_item t (kept_item p earliest r))
@@ -61,7 +61,7 @@ lead_of_record : (t : KeptTables) (r : RecordParts) → IsFit r →
     ≤ first_of (query_message r) + first_of (response_message r)
 lead_of_record t r fit =
     let fits = either_fits (option_and_then first_question (query_message r)) (option_and_then first_question (response_message r))
-        (first_question_fits (query_message r) fit.query) (first_question_fits (response_message r) fit.response) in
+    (first_question_fits (query_message r) fit.query) (first_question_fits (response_message r) fit.response) in
     omega (
       arith,
       lead_cost t (lead_question r) fits,

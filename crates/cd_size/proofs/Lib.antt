@@ -9,3 +9,5 @@ mod Lists
 mod Halves
 mod Items
 mod Runs
+mod MessageRanges
+mod EventRanges

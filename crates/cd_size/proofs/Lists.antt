@@ -1,15 +1,13 @@
 -- What the lists of an item cost: 15 bytes each, and at most the weights of what they hold.
-use Rattle.std.proofs.Common.{◌≡◌, ℕ, ◌+◌, ◌*◌, ◌<◌, ◌≤◌, Bool, true, false, not, List, [], ◌∷◌, ◌++◌, length, map, drop, Option, Some, None, refl, arith}
-use Rattle.std.specs.Prelude.{⊤, IfSome, if◌then◌else◌}
-use Rattle.std.specs.List.{AllByRecursion, filter, flat_map, count_by}
-use Rattle.std.specs.Option.{option_map, option_map_or}
+use Rattle.std.proofs.Common.{◌≡◌, ℕ, ◌+◌, ◌*◌, ◌<◌, ◌≤◌, Bool, true, false, List, [], ◌∷◌, ◌++◌, length, map, Some, arith}
+use Rattle.std.specs.Prelude.{if◌then◌else◌}
+use Rattle.std.specs.List.{AllByRecursion, filter}
 use Rattle.std.proofs.lemmas.List.{length-map}
 use Rattle.std.proofs.lemmas.List.Sums.{length-filter, count_by-le-length}
-use Rattle.cd_cbor.specs.Items.{bytes, unsigned}
+use Rattle.cd_cbor.specs.Items.{unsigned}
 use Rattle.cd_file.specs.Maps.{numbers, number, there, entries_count}
 use Rattle.cd_file.specs.Blocks.{extended_entries}
-use Rattle.cd_file.specs.Tables.{classtype_item, question_item, rr_item}
-use Rattle.cd_file.specs.Ranges.{ClasstypeInRange}
+use Rattle.cd_file.specs.Tables.{classtype_item}
 use Rattle.cd_file.proofs.Sizes.{bytes_short}
 use Rattle.cd_file.proofs.MapSizes.{question_short, rr_short, classtype_short}
 use Rattle.cd_block.specs.declared.hints.Hints.{Hints}

@@ -1,15 +1,14 @@
 -- What the parts of an item cost: addresses, names, types and classes, and signatures.
-use Rattle.std.proofs.Common.{◌≡◌, ℕ, ◌+◌, ◌-◌, ◌*◌, ◌<◌, ◌≤◌, min, Bool, true, false, nat_lt, List, [], ◌∷◌, ◌++◌, length, take, Option, Some, None, refl, arith, length-append}
-use Rattle.std.specs.Prelude.{⊤, IfSome, if◌then◌else◌}
-use Rattle.std.specs.Option.{option_map, option_map_or}
+use Rattle.std.proofs.Common.{◌≡◌, ℕ, ◌+◌, ◌-◌, ◌<◌, ◌≤◌, Bool, true, false, List, [], ◌∷◌, ◌++◌, length, Option, Some, None, arith, length-append}
+use Rattle.std.specs.Prelude.{IfSome, if◌then◌else◌}
 use Rattle.std.proofs.lemmas.Bool.{lt-ltb}
 use Rattle.std.proofs.lemmas.List.{length-take}
 use Rattle.cd_cbor.specs.Items.{bytes}
 use Rattle.cd_cbor.specs.Spelling.{head}
 use Rattle.cd_cbor.proofs.Spelled.{spelling_bytes}
 use Rattle.cd_file.proofs.Sizes.{head_of_byte, head_of_word, head_of_key}
-use Rattle.cd_file.proofs.MapSizes.{signature_short, classtype_short}
-use Rattle.cd_file.specs.Ranges.{SignatureInRange, ClasstypeInRange}
+use Rattle.cd_file.proofs.MapSizes.{signature_short}
+use Rattle.cd_file.specs.Ranges.{SignatureInRange}
 use Rattle.cd_block.specs.declared.kept.KeptSig.{KeptSig}
 use Rattle.cd_block.specs.Tables.{KeptTables, indexed_signature}
 use Rattle.cd_block.specs.Traversal.{Visited, where_present, visited_address, visited_classtype, visited_bytes, visited_signature}

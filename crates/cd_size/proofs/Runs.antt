@@ -1,7 +1,7 @@
 -- The block of a run takes at most the weight of the run and 1,024 bytes.
-use Rattle.std.proofs.Common.{◌≡◌, ℕ, ◌+◌, ◌*◌, ◌<◌, ◌≤◌, Bool, true, false, List, [], ◌∷◌, ◌++◌, length, map, Option, Some, None, refl, arith}
-use Rattle.std.specs.Prelude.{⊤, IfSome, if◌then◌else◌}
-use Rattle.std.specs.Option.{option_map, option_map_or}
+use Rattle.std.proofs.Common.{◌+◌, ◌≤◌, Bool, true, false, List, [], ◌∷◌, map, Option, Some, None, arith}
+use Rattle.std.specs.Prelude.{if◌then◌else◌}
+use Rattle.std.specs.Option.{option_map_or}
 use Rattle.std.specs.List.{All, filter, sum_by}
 use Rattle.std.proofs.lemmas.List.Elements.{All-head, All-tail}
 use Rattle.cd_file.specs.Ranges.{MalformedInRange, DataInRange, string_length}
@@ -15,13 +15,11 @@ use Rattle.cd_ident.specs.Events.{EventParts}
 use Rattle.cd_ident.specs.declared.event.Body.{Body}
 use Rattle.cd_ident.specs.declared.event.Body.TheVariants.{Message, Payload, Nothing}
 use Rattle.cd_hints.specs.Addresses.{client_address, server_address, client_prefix, server_prefix}
-use Rattle.cd_hints.specs.Flags.{transport_flags}
 use Rattle.cd_hints.specs.Hinted.{is_hinted}
 use Rattle.cd_hints.specs.Items.{kept_item, kept_malformed, kept_data}
 use Rattle.cd_hints.specs.Records.{RecordParts, pair, unmatched_query, unmatched_response, malformed, discarded, payload_in, is_item, is_malformed}
 use Rattle.cd_record.specs.Blocks.{kept_items, kept_malformed_items, kept_block}
 use Rattle.cd_record.specs.Earliest.{earliest_time}
-use Rattle.cd_record.specs.Laws.{events_of}
 use Rattle.cd_record.specs.Runs.{record_weight, run_weight}
 use Rattle.cd_size.specs.Costs.{value_size, item_cost, malformed_cost}
 use Rattle.cd_size.specs.Laws.{BlocksAreLight}

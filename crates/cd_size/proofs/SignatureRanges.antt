@@ -1,6 +1,6 @@
 -- The numbers of a kept signature are in the ranges of their types.
-use Rattle.std.proofs.Common.{◌≡◌, ℕ, ◌+◌, ◌*◌, ◌/◌, ◌%◌, ◌<◌, ◌≤◌, Bool, true, false, List, length, Option, Some, None, refl, arith}
-use Rattle.std.specs.Prelude.{⊤, IfSome, if◌then◌else◌, option_and_then}
+use Rattle.std.proofs.Common.{ℕ, ◌<◌, ◌≤◌, Bool, true, false, length, Option, Some, None, arith}
+use Rattle.std.specs.Prelude.{IfSome, if◌then◌else◌, option_and_then}
 use Rattle.std.specs.Option.{option_map, option_map_or}
 use Rattle.std.specs.List.{find}
 use Rattle.std.proofs.lemmas.Nat.Bits.{bit_at-lt}

@@ -1,5 +1,5 @@
 -- What the items of a kept block cost: the bytes of each item, and of each value that it uses, once for each use.
-use Rattle.std.specs.Prelude.{ℕ, ◌+◌, List, length, map}
+use Rattle.std.specs.Prelude.{ℕ, ◌+◌, length, map}
 use Rattle.std.specs.List.{sum_by}
 use Rattle.cd_cbor.specs.declared.item.Item.{Item}
 use Rattle.cd_cbor.specs.Items.{bytes}

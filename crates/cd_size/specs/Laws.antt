@@ -1,5 +1,5 @@
 -- Laws of the sizes of blocks.
-use Rattle.std.specs.Prelude.{ℕ, ◌+◌, ◌≤◌, List, length}
+use Rattle.std.specs.Prelude.{◌+◌, ◌≤◌, List, length}
 use Rattle.std.specs.List.{All, sum_by}
 use Rattle.cd_block.specs.declared.kept.KeptBlock.{KeptBlock}
 use Rattle.cd_block.specs.declared.params.Params.{Params}
@@ -7,9 +7,12 @@ use Rattle.cd_block.specs.Tables.{indexed, tables_of}
 use Rattle.cd_block.specs.Traversal.{visited}
 use Rattle.cd_file.specs.Files.{block_spelling}
 use Rattle.cd_hints.specs.Records.{RecordParts}
+use Rattle.cd_ident.specs.declared.event_rules.EventRules.{EventRules}
+use Rattle.cd_ident.specs.Events.{event_parts}
+use Rattle.cd_packet.specs.Layers.{Datagram}
 use Rattle.cd_record.specs.Blocks.{kept_block}
 use Rattle.cd_record.specs.Runs.{run_weight}
-use Rattle.cd_size.specs.Ranges.{RecordInRange}
+use Rattle.cd_size.specs.Ranges.{RecordInRange, DatagramInRange, EventInRange}
 use Rattle.cd_size.specs.Costs.{item_cost, malformed_cost}
 
 -- a kept block takes at most 205 bytes, and the costs of its items and of its malformed messages
@@ -21,3 +24,7 @@ KeptBlocksAreShort = (b : KeptBlock) → length (block_spelling (indexed b)) ≤
 abbrev pub BlocksAreLight : Type 0
 BlocksAreLight = (p : Params) (run : List RecordParts) → All RecordInRange run →
     length (block_spelling (indexed (kept_block p run))) ≤ run_weight run + 1024
+
+-- the event of a datagram is in range
+abbrev pub EventsAreInRange : Type 0
+EventsAreInRange = (rules : EventRules) (d : Datagram) → DatagramInRange d → EventInRange (event_parts rules d)

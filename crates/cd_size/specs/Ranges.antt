@@ -1,11 +1,13 @@
--- The ranges of the numbers of an event, which are those of their types, and that it weighs at least as much as its body.
-use Rattle.std.specs.Prelude.{ℕ, ◌+◌, ◌<◌, ◌≤◌, length}
+-- The ranges of the numbers of a datagram and of an event, which are those of their types.
+use Rattle.std.specs.Prelude.{◌≡◌, ℕ, ◌+◌, ◌<◌, ◌≤◌, length}
 use Rattle.std.specs.List.{All}
 use Rattle.cd_pairing.specs.declared.keyed.TheConstants.{LEAST_WEIGHT}
 use Rattle.cd_message.specs.declared.message.Question.{Question}
 use Rattle.cd_message.specs.declared.message.Rr.{Rr}
 use Rattle.cd_message.specs.declared.message.Message as dns
+use Rattle.cd_message.specs.MessageLaws.{AreBytes}
 use Rattle.cd_message.specs.Weights.{weight_of}
+use Rattle.cd_packet.specs.Layers.{Datagram}
 use Rattle.cd_ident.specs.declared.event.Body.{Body}
 use Rattle.cd_ident.specs.declared.event.Body.TheVariants.{Message, Payload, Nothing}
 use Rattle.cd_ident.specs.Bodies.{HasBody}
@@ -60,3 +62,12 @@ pub record EventInRange (e : EventParts) : Type 0 where
 -- the ranges of the events of a record
 abbrev pub RecordInRange : RecordParts → Type 0
 RecordInRange r = All EventInRange (events_of r)
+
+-- the ranges of a datagram, whose addresses have sixteen octets as `Addr` has them
+pub record DatagramInRange (d : Datagram) : Type 0 where
+  pub src : length d.src.octets ≡ 16
+  pub dst : length d.dst.octets ≡ 16
+  pub sport : d.sport < 0x1_0000
+  pub dport : d.dport < 0x1_0000
+  pub hop : d.hop < 0x100
+  pub payload : AreBytes d.payload
