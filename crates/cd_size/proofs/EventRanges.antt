@@ -19,20 +19,14 @@ use Rattle.cd_ident.specs.declared.identifiers.Ids.{Ids}
 use Rattle.cd_ident.specs.Bodies.{HasBody}
 use Rattle.cd_ident.specs.Events.{parts_of_payload, parts_of_reading, event_parts, message_ends, message_ids}
 use Rattle.cd_ident.specs.Headers.{qr_of, opcode_of, is_listed}
+use Rattle.cd_ident.specs.IdentifierLaws.{EndsFit}
 use Rattle.cd_ident.specs.Identifiers.{Ends, ends_of, version_byte, primary_of, secondary_of, bare_ids, transport_of}
 use Rattle.cd_size.specs.Laws.{EventsAreInRange}
 use Rattle.cd_size.specs.Ranges.{DatagramInRange, EventInRange, BodyInRange, body_weight}
 use Rattle.cd_size.proofs.MessageRanges.{message_ranged}
 
--- the ranges of the ends of a datagram
-record EndsInRange (e : Ends) : Type 0 where
-  client : length e.client.octets ≡ 16
-  server : length e.server.octets ≡ 16
-  client_port : e.client_port < 0x1_0000
-  server_port : e.server_port < 0x1_0000
-
--- they are those of the datagram
-ends_in_range : (from_client : Bool) (d : Datagram) → DatagramInRange d → EndsInRange (ends_of from_client d)
+-- the ends of a datagram in range
+ends_in_range : (from_client : Bool) (d : Datagram) → DatagramInRange d → EndsFit (ends_of from_client d)
 ends_in_range true d range = record { client = range.src; server = range.dst; client_port = range.sport; server_port = range.dport }
 ends_in_range false d range = record { client = range.dst; server = range.src; client_port = range.dport; server_port = range.sport }
 
@@ -41,7 +35,7 @@ number_after : (front after : List ℕ) (x n : ℕ) → n ≡ length front → g
 number_after front after x n is = ap (λ k. get_or (front ++ x ∷ after) k 0) is ∙ get_or-append_seam front x after 0
 
 -- the transport is 0, that of UDP
-transport_is_udp : (e : Ends) (id opcode : ℕ) (secondary : Option (List ℕ)) → EndsInRange e →
+transport_is_udp : (e : Ends) (id opcode : ℕ) (secondary : Option (List ℕ)) → EndsFit e →
     transport_of (record { primary = primary_of e id opcode; secondary = secondary }) ≡ 0
 transport_is_udp e id opcode secondary range =
     let long : 37 ≡ length (version_byte e.client.v6 ∷ e.client.octets ++ e.server.octets ++ to_be_bytes w16 e.client_port ++ to_be_bytes w16 e.server_port) =
@@ -60,7 +54,7 @@ transport_is_udp e id opcode secondary range =
 
 -- an event of a payload
 made_in_range : (d : Datagram) (ends : Ends) (kind : Kind) (trailing : Bool) (ids : Ids) (weight : ℕ) (body : Body) →
-    DatagramInRange d → EndsInRange ends → transport_of ids ≡ 0 → HasBody kind body → BodyInRange body → body_weight body ≤ weight →
+    DatagramInRange d → EndsFit ends → transport_of ids ≡ 0 → HasBody kind body → BodyInRange body → body_weight body ≤ weight →
     EventInRange (parts_of_payload d ends kind trailing ids weight body)
 made_in_range d ends kind trailing ids weight body range fit transport has ranged weighs = record {
   client = omega (arith, fit.client);

@@ -1,5 +1,5 @@
 -- What a query and a response of an item cost: at most 195 bytes less than their message weighs.
-use Rattle.std.proofs.Common.{ℕ, ◌+◌, ◌≤◌, Bool, true, false, not, List, [], ◌∷◌, length, Option, Some, None, arith}
+use Rattle.std.proofs.Common.{◌≡◌, ℕ, ◌+◌, ◌≤◌, Bool, true, false, not, List, [], ◌∷◌, length, Option, Some, None, arith}
 use Rattle.std.specs.Prelude.{IfSome, if◌then◌else◌, option_and_then, slice_get}
 use Rattle.std.specs.List.{All, AllByRecursion, find}
 use Rattle.std.specs.Option.{option_map, option_map_or, option_or}
@@ -20,14 +20,14 @@ use Rattle.cd_edns.specs.Opts.{opt_of_record, opt_of_message}
 use Rattle.cd_ident.specs.declared.event.Body.{Body}
 use Rattle.cd_ident.specs.declared.event.Body.TheVariants.{Message, Payload, Nothing}
 use Rattle.cd_hints.specs.Items.{first_question}
-use Rattle.cd_hints.specs.Lists.{query_lists, response_lists, no_lists, without_opt, kept_records}
+use Rattle.cd_hints.specs.Lists.{query_lists, response_lists, no_lists, without_opt, kept_questions, kept_records}
 use Rattle.cd_hints.specs.Records.{message_in}
 use Rattle.cd_size.specs.Costs.{size}
 use Rattle.cd_size.specs.Ranges.{QuestionInRange, body_weight}
 use Rattle.cd_size.proofs.Totals.{total, total_filter, sum_is_total}
 use Rattle.cd_size.proofs.Fits.{MessageIsFit, RrIsSmall, small_records, ranged_questions, all_filter, all_find}
 use Rattle.cd_size.proofs.Parts.{cost, name_short, rdata_short}
-use Rattle.cd_size.proofs.Lists.{first_share, questions_share, section_cost, length_filter_few, records_cost, lists_cost, lists_in_turn}
+use Rattle.cd_size.proofs.Lists.{first_share, questions_share, section_cost, length_filter_few, questions_cost, records_cost, lists_cost, lists_in_turn}
 
 -- what the RDATA of an OPT record takes
 abbrev pub opt_share : Option Rr → ℕ
@@ -55,55 +55,82 @@ first_of m = option_map_or (λ x. first_share x.questions) m 0
 abbrev pub opt_of : Option dns.Message → ℕ
 opt_of m = option_map_or (λ x. opt_share (find is_opt x.additional)) m 0
 
--- the records of the query's additional section that are no OPT records
-additional_cost : (t : KeptTables) (p : Params) (rs : List Rr) → length rs ≤ 65535 → AllByRecursion RrIsSmall rs →
-    records_cost t (kept_records p hint.QR_QUERY_ADDITIONAL (without_opt rs)) ≤ 15 + total record_weight (without_opt rs)
-additional_cost t p rs few all =
-    section_cost t p hint.QR_QUERY_ADDITIONAL (without_opt rs)
-    (let h : length (without_opt rs) ≤ 65535 = omega (arith, few, length_filter_few (λ x. not (is_opt x)) rs) in h)
-    (all_filter RrIsSmall (λ x. not (is_opt x)) rs all)
+-- the answers of a message that are kept
+answers_cost : (t : KeptTables) (p : Params) (bit : ℕ) (m : dns.Message) → MessageIsFit m →
+    records_cost t (kept_records p bit m.answers) ≤ 15 + total record_weight m.answers
+answers_cost t p bit m fit =
+    let valid = fit.valid.answers in
+    section_cost t p bit m.answers valid.few_records (small_records m.answers valid.records_are_valid fit.range.answers)
 
--- a query's message
-query_message_cost : (t : KeptTables) (p : Params) (m : dns.Message) → MessageIsFit m →
-    lists_cost t (query_lists p m) + (first_share m.questions + opt_share (find is_opt m.additional)) + 195 ≤ weight_of m
-query_message_cost t p m fit =
-    let answers = section_cost t p hint.QR_QUERY_ANSWER m.answers fit.valid.answers.few_records (small_records m.answers fit.valid.answers.records_are_valid fit.range.answers) in
-    let authority = section_cost t p hint.QR_QUERY_AUTHORITY m.authority fit.valid.authority.few_records (small_records m.authority fit.valid.authority.records_are_valid fit.range.authority) in
-    let additional = additional_cost t p m.additional fit.valid.additional.few_records (small_records m.additional fit.valid.additional.records_are_valid fit.range.additional) in
-    let questions = questions_share t p.hints m.questions fit.valid.few_questions (ranged_questions m.questions fit.range.questions) in
+-- the authority records of a message that are kept
+authority_cost : (t : KeptTables) (p : Params) (bit : ℕ) (m : dns.Message) → MessageIsFit m →
+    records_cost t (kept_records p bit m.authority) ≤ 15 + total record_weight m.authority
+authority_cost t p bit m fit =
+    let valid = fit.valid.authority in
+    section_cost t p bit m.authority valid.few_records (small_records m.authority valid.records_are_valid fit.range.authority)
+
+-- the additional records of a message are small
+additional_small : (m : dns.Message) → MessageIsFit m → AllByRecursion RrIsSmall m.additional
+additional_small m fit = small_records m.additional fit.valid.additional.records_are_valid fit.range.additional
+
+-- the additional records of a response that are kept
+additional_cost : (t : KeptTables) (p : Params) (bit : ℕ) (m : dns.Message) → MessageIsFit m →
+    records_cost t (kept_records p bit m.additional) ≤ 15 + total record_weight m.additional
+additional_cost t p bit m fit = section_cost t p bit m.additional fit.valid.additional.few_records (additional_small m fit)
+
+-- those of a query that are kept, none of which is an OPT record
+without_opt_cost : (t : KeptTables) (p : Params) (bit : ℕ) (m : dns.Message) → MessageIsFit m →
+    records_cost t (kept_records p bit (without_opt m.additional)) ≤ 15 + total record_weight (without_opt m.additional)
+without_opt_cost t p bit m fit =
+    let all = fit.valid.additional.few_records in
+    let few : length (without_opt m.additional) ≤ 65535 = omega (arith, all, length_filter_few (λ x. not (is_opt x)) m.additional) in
+    section_cost t p bit (without_opt m.additional) few (all_filter RrIsSmall (λ x. not (is_opt x)) m.additional (additional_small m fit))
+
+-- the questions of a message after the first
+questions_after_first : (t : KeptTables) (p : Params) (m : dns.Message) → MessageIsFit m →
+    questions_cost t (kept_questions p.hints m.questions) + first_share m.questions ≤ total question_weight m.questions
+questions_after_first t p m fit =
+    questions_share t p.hints m.questions fit.valid.few_questions (ranged_questions m.questions fit.range.questions)
+
+-- the weight of a message as sums by recursion
+weight_in_turn : (m : dns.Message) → weight_of m ≡ 256 + total question_weight m.questions + total record_weight m.answers
+    + total record_weight m.authority + total record_weight m.additional
+weight_in_turn m =
     omega (
       arith,
-      lists_in_turn t (query_lists p m),
-      questions,
-      answers,
-      authority,
-      additional,
-      opt_apart m.additional,
       sum_is_total question_weight m.questions,
       sum_is_total record_weight m.answers,
       sum_is_total record_weight m.authority,
       sum_is_total record_weight m.additional,
     )
 
+-- a query's message
+query_message_cost : (t : KeptTables) (p : Params) (m : dns.Message) → MessageIsFit m →
+    lists_cost t (query_lists p m) + (first_share m.questions + opt_share (find is_opt m.additional)) + 195 ≤ weight_of m
+query_message_cost t p m fit =
+    omega (
+      arith,
+      weight_in_turn m,
+      lists_in_turn t (query_lists p m),
+      questions_after_first t p m fit,
+      answers_cost t p hint.QR_QUERY_ANSWER m fit,
+      authority_cost t p hint.QR_QUERY_AUTHORITY m fit,
+      without_opt_cost t p hint.QR_QUERY_ADDITIONAL m fit,
+      opt_apart m.additional,
+    )
+
 -- a response's message
 response_message_cost : (t : KeptTables) (p : Params) (m : dns.Message) → MessageIsFit m →
     lists_cost t (response_lists p m) + first_share m.questions + 195 ≤ weight_of m
 response_message_cost t p m fit =
-    let answers = section_cost t p hint.QR_RESPONSE_ANSWER m.answers fit.valid.answers.few_records (small_records m.answers fit.valid.answers.records_are_valid fit.range.answers) in
-    let authority = section_cost t p hint.QR_RESPONSE_AUTHORITY m.authority fit.valid.authority.few_records (small_records m.authority fit.valid.authority.records_are_valid fit.range.authority) in
-    let additional = section_cost t p hint.QR_RESPONSE_ADDITIONAL m.additional fit.valid.additional.few_records (small_records m.additional fit.valid.additional.records_are_valid fit.range.additional) in
-    let questions = questions_share t p.hints m.questions fit.valid.few_questions (ranged_questions m.questions fit.range.questions) in
     omega (
       arith,
+      weight_in_turn m,
       lists_in_turn t (response_lists p m),
-      questions,
-      answers,
-      authority,
-      additional,
-      sum_is_total question_weight m.questions,
-      sum_is_total record_weight m.answers,
-      sum_is_total record_weight m.authority,
-      sum_is_total record_weight m.additional,
+      questions_after_first t p m fit,
+      answers_cost t p hint.QR_RESPONSE_ANSWER m fit,
+      authority_cost t p hint.QR_RESPONSE_AUTHORITY m fit,
+      additional_cost t p hint.QR_RESPONSE_ADDITIONAL m fit,
     )
 
 -- no lists cost nothing
@@ -201,6 +228,4 @@ found_opt_cost t (Some r) small = omega (arith, rdata_short r.rdata small.rdata)
 pub opt_cost : (t : KeptTables) (m : Option dns.Message) → IfSome m MessageIsFit →
     cost t (where_present visited_bytes (option_map (λ x. x.rdata) (option_and_then opt_of_message m))) ≤ opt_of m
 opt_cost t None fit = omega arith
-opt_cost t (Some m) fit =
-    found_opt_cost t (find is_opt m.additional)
-    (all_find RrIsSmall is_opt m.additional (small_records m.additional fit.valid.additional.records_are_valid fit.range.additional))
+opt_cost t (Some m) fit = found_opt_cost t (find is_opt m.additional) (all_find RrIsSmall is_opt m.additional (additional_small m fit))

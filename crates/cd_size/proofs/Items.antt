@@ -17,7 +17,7 @@ use Rattle.cd_size.specs.Costs.{value_size, item_cost}
 use Rattle.cd_size.specs.Ranges.{EventInRange}
 use Rattle.cd_size.proofs.Totals.{total_append, sum_is_total}
 use Rattle.cd_size.proofs.Fits.{MessageIsFit}
-use Rattle.cd_size.proofs.SignatureRanges.{IsFit, kept_within, mapped, signature_in_range}
+use Rattle.cd_size.proofs.SignatureRanges.{IsFit, kept_within, kept_word, kept_byte, word_of, mapped, signature_in_range}
 use Rattle.cd_size.proofs.Parts.{cost, stored_short, kept_cost, address_cost, signature_cost}
 use Rattle.cd_size.proofs.Lists.{lists_cost}
 use Rattle.cd_size.proofs.Halves.{query_cost, response_cost, first_of, opt_of, first_question_fits, either_fits, either_share, first_of_message, lead_cost, opt_cost}
@@ -26,9 +26,9 @@ use Rattle.cd_size.proofs.Halves.{query_cost, response_cost, first_of, opt_of, f
 item_in_range : (t : KeptTables) (p : Params) (earliest : Stamp) (r : RecordParts) → IsFit r → ItemInRange (indexed_item t (kept_item p earliest r))
 unfolding indexed_item
 item_in_range t p earliest r fit = record {
-  client_port = kept_within (λ n. n < 0x1_0000) _ _ (Some (main_event r).client_port) fit.main.client_port;
-  transaction_id = kept_within (λ n. n < 0x1_0000) _ _ (option_map (λ m. m.id) (main_message r)) (mapped MessageIsFit (λ n. n < 0x1_0000) (λ m. m.id) (main_message r) (λ m f. f.range.id) fit.main_fits);
-  client_hoplimit = kept_within (λ n. n < 0x100) _ _ (option_map (λ e. e.hop) (query_of r)) (mapped EventInRange (λ n. n < 0x100) (λ e. e.hop) (query_of r) (λ e f. f.hop) fit.query_event);
+  client_port = kept_word _ _ (Some (main_event r).client_port) fit.main.client_port;
+  transaction_id = kept_word _ _ _ (word_of (λ m. m.id) (main_message r) (λ m f. f.range.id) fit.main_fits);
+  client_hoplimit = kept_byte _ _ _ (mapped EventInRange (λ n. n < 0x100) (λ e. e.hop) (query_of r) (λ e f. f.hop) fit.query_event);
 }
 
 -- an item, and what it uses

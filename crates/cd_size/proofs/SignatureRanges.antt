@@ -17,7 +17,7 @@ use Rattle.cd_hints.specs.Hinted.{is_hinted, kept}
 use Rattle.cd_hints.specs.Flags.{flag_where, transport_flags, signature_flags, dns_flags, query_signature_flags, response_signature_flags, query_dns_flags, response_dns_flags, has_opt, has_no_question, is_dnssec_ok}
 use Rattle.cd_hints.specs.Items.{kept_signature, query_opt, main_message, is_query_trailing}
 use Rattle.cd_hints.specs.Records.{RecordParts, main_event, query_of, query_message, response_message}
-use Rattle.cd_file.specs.Ranges.{SignatureInRange}
+use Rattle.cd_file.specs.Ranges.{IsByte, IsWord, SignatureInRange}
 use Rattle.cd_size.specs.Ranges.{EventInRange}
 use Rattle.cd_size.proofs.Fits.{MessageIsFit, RrIsSmall, small_records, all_find}
 
@@ -119,26 +119,58 @@ pub record IsFit (r : RecordParts) : Type 0 where
   pub query : IfSome (query_message r) MessageIsFit
   pub response : IfSome (response_message r) MessageIsFit
 
--- a count that is at most 65,535
-count_short : (n : ℕ) → n ≤ 65535 → n < 0x1_0000
-count_short n few = omega arith
+-- a number of two bytes that is kept or not
+pub kept_word : (hints hint : ℕ) (v : Option ℕ) → IsWord v → IsWord (kept hints hint v)
+kept_word hints hint v holds = kept_within (λ n. n < 0x1_0000) hints hint v holds
+
+-- a byte that is kept or not
+pub kept_byte : (hints hint : ℕ) (v : Option ℕ) → IsByte v → IsByte (kept hints hint v)
+kept_byte hints hint v holds = kept_within (λ n. n < 0x100) hints hint v holds
+
+-- a number of two bytes of a message
+pub word_of : (f : Message → ℕ) (m : Option Message) → ((x : Message) → MessageIsFit x → f x < 0x1_0000) →
+    IfSome m MessageIsFit → IsWord (option_map f m)
+word_of f m short fit = mapped MessageIsFit (λ n. n < 0x1_0000) f m short fit
+
+-- an opcode of a message
+opcode_of_message : (m : Option Message) → IsByte (option_map (λ x. opcode_of x.bits) m)
+opcode_of_message None = tt
+opcode_of_message (Some m) = opcode_short m.bits
+
+-- the number of questions
+few_questions : (m : Message) → MessageIsFit m → length m.questions < 0x1_0000
+few_questions m fit = let few = fit.valid.few_questions in omega (arith, few)
+
+-- the number of answers
+few_answers : (m : Message) → MessageIsFit m → length m.answers < 0x1_0000
+few_answers m fit = let few = fit.valid.answers.few_records in omega (arith, few)
+
+-- the number of authority records
+few_authority : (m : Message) → MessageIsFit m → length m.authority < 0x1_0000
+few_authority m fit = let few = fit.valid.authority.few_records in omega (arith, few)
+
+-- the number of additional records
+few_additional : (m : Message) → MessageIsFit m → length m.additional < 0x1_0000
+few_additional m fit = let few = fit.valid.additional.few_records in omega (arith, few)
 
 -- a kept signature
-pub signature_in_range : (t : KeptTables) (p : Params) (r : RecordParts) → IsFit r → SignatureInRange (indexed_signature t (kept_signature p r))
+pub signature_in_range : (t : KeptTables) (p : Params) (r : RecordParts) → IsFit r →
+    SignatureInRange (indexed_signature t (kept_signature p r))
 unfolding indexed_signature
 signature_in_range t p r fit =
+    let transport = transport_flags_short (main_event r) (is_query_trailing r) fit.main.transport in
     record {
-      server_port = kept_within (λ n. n < 0x1_0000) _ _ (Some (main_event r).server_port) fit.main.server_port;
-      transport_flags = kept_within (λ n. n < 0x100) _ _ (Some (transport_flags (main_event r) (is_query_trailing r))) (transport_flags_short (main_event r) (is_query_trailing r) fit.main.transport);
-      sig_flags = kept_within (λ n. n < 0x100) _ _ (Some (signature_flags (query_message r) (response_message r))) (signature_flags_short (query_message r) (response_message r));
-      opcode = kept_within (λ n. n < 0x100) _ _ (option_map (λ m. opcode_of m.bits) (main_message r)) (mapped MessageIsFit (λ n. n < 0x100) (λ m. opcode_of m.bits) (main_message r) (λ m _. opcode_short m.bits) fit.main_fits);
-      dns_flags = kept_within (λ n. n < 0x1_0000) _ _ (Some (dns_flags (query_message r) (response_message r))) (dns_flags_short (query_message r) (response_message r));
-      query_rcode = kept_within (λ n. n < 0x1_0000) _ _ (option_map full_rcode_of (query_message r)) (mapped MessageIsFit (λ n. n < 0x1_0000) full_rcode_of (query_message r) rcode_short fit.query);
-      qd = kept_within (λ n. n < 0x1_0000) _ _ (option_map (λ m. length m.questions) (main_message r)) (mapped MessageIsFit (λ n. n < 0x1_0000) (λ m. length m.questions) (main_message r) (λ m f. count_short (length m.questions) f.valid.few_questions) fit.main_fits);
-      an = kept_within (λ n. n < 0x1_0000) _ _ (option_map (λ m. length m.answers) (query_message r)) (mapped MessageIsFit (λ n. n < 0x1_0000) (λ m. length m.answers) (query_message r) (λ m f. count_short (length m.answers) f.valid.answers.few_records) fit.query);
-      ns = kept_within (λ n. n < 0x1_0000) _ _ (option_map (λ m. length m.authority) (query_message r)) (mapped MessageIsFit (λ n. n < 0x1_0000) (λ m. length m.authority) (query_message r) (λ m f. count_short (length m.authority) f.valid.authority.few_records) fit.query);
-      ar = kept_within (λ n. n < 0x1_0000) _ _ (option_map (λ m. length m.additional) (query_message r)) (mapped MessageIsFit (λ n. n < 0x1_0000) (λ m. length m.additional) (query_message r) (λ m f. count_short (length m.additional) f.valid.additional.few_records) fit.query);
-      edns_version = kept_within (λ n. n < 0x100) _ _ (option_map (λ o. o.version) (query_opt r)) (query_version (query_message r));
-      udp_size = kept_within (λ n. n < 0x1_0000) _ _ (option_map (λ o. o.udp_size) (query_opt r)) (query_size (query_message r) fit.query);
-      response_rcode = kept_within (λ n. n < 0x1_0000) _ _ (option_map full_rcode_of (response_message r)) (mapped MessageIsFit (λ n. n < 0x1_0000) full_rcode_of (response_message r) rcode_short fit.response);
+      server_port = kept_word _ _ (Some (main_event r).server_port) fit.main.server_port;
+      transport_flags = kept_byte _ _ (Some (transport_flags (main_event r) (is_query_trailing r))) transport;
+      sig_flags = kept_byte _ _ (Some _) (signature_flags_short (query_message r) (response_message r));
+      opcode = kept_byte _ _ _ (opcode_of_message (main_message r));
+      dns_flags = kept_word _ _ (Some _) (dns_flags_short (query_message r) (response_message r));
+      query_rcode = kept_word _ _ _ (word_of full_rcode_of (query_message r) rcode_short fit.query);
+      qd = kept_word _ _ _ (word_of (λ m. length m.questions) (main_message r) few_questions fit.main_fits);
+      an = kept_word _ _ _ (word_of (λ m. length m.answers) (query_message r) few_answers fit.query);
+      ns = kept_word _ _ _ (word_of (λ m. length m.authority) (query_message r) few_authority fit.query);
+      ar = kept_word _ _ _ (word_of (λ m. length m.additional) (query_message r) few_additional fit.query);
+      edns_version = kept_byte _ _ _ (query_version (query_message r));
+      udp_size = kept_word _ _ _ (query_size (query_message r) fit.query);
+      response_rcode = kept_word _ _ _ (word_of full_rcode_of (response_message r) rcode_short fit.response);
     }
