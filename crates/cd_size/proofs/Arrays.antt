@@ -28,7 +28,8 @@ pub array_short : {X : Type 0} (f : X → Item) (xs : List X) → size (array (m
 array_short f xs = array_within f xs 9 (head_short 4 (length (map f xs)))
 
 -- an array of at most 65,535 items
-pub array_of_few : {X : Type 0} (f : X → Item) (xs : List X) → length xs < 0x1_0000 → size (array (map f xs)) ≤ 3 + total (λ x. size (f x)) xs
+pub array_of_few : {X : Type 0} (f : X → Item) (xs : List X) → length xs < 0x1_0000 →
+    size (array (map f xs)) ≤ 3 + total (λ x. size (f x)) xs
 array_of_few f xs few = array_within f xs 3 (head_of_word 4 (length (map f xs)) (rw (length-map xs f) few))
 
 -- an array of numbers takes nine bytes for each at most
@@ -43,7 +44,8 @@ unfolding entry_spelling
 entry_none key m = omega arith
 
 -- an entry whose value is there
-pub entry_there : (key m : ℕ) (item : Item) → nat_lt key 24 ≡ true → size item ≤ m → length (entry_spelling key (Some item)) ≤ 1 + m
+pub entry_there : (key m : ℕ) (item : Item) → nat_lt key 24 ≡ true → size item ≤ m →
+    length (entry_spelling key (Some item)) ≤ 1 + m
 unfolding entry_spelling
 entry_there key m item small short =
     let one : length (spelling (unsigned key)) ≡ 1 = rw (spelling_unsigned key) (head_of_key 0 key small) in
@@ -54,11 +56,13 @@ pub optional_array_short : {X : Type 0} (f : X → Item) (key : ℕ) (xs : List 
     length (entry_spelling key (optional_array (map f xs))) ≤ 10 + total (λ x. size (f x)) xs
 optional_array_short f key [] small = entry_none key 10
 optional_array_short f key (x ∷ xs) small =
-    let whole = entry_there key (9 + total (λ y. size (f y)) (x ∷ xs)) (array (map f (x ∷ xs))) small (array_short f (x ∷ xs)) in
+    let whole =
+    entry_there key (9 + total (λ y. size (f y)) (x ∷ xs)) (array (map f (x ∷ xs))) small (array_short f (x ∷ xs)) in
     omega (arith, whole)
 
 -- an entry of a map that may be absent, of so many values
-optional_map_counted : (key : ℕ) (es : List (ℕ × Option Item)) (n m : ℕ) → n ≡ entries_count es → nat_lt key 24 ≡ true → length es < 24 →
+optional_map_counted : (key : ℕ) (es : List (ℕ × Option Item)) (n m : ℕ) → n ≡ entries_count es →
+    nat_lt key 24 ≡ true → length es < 24 →
     length (entries_spelling es) ≤ m → length (entry_spelling key (optional_map es)) ≤ 2 + m
 optional_map_counted key es zero m counted small few short = rw (none_present es (sym counted)) (entry_none key (2 + m))
 optional_map_counted key es (suc n) m counted small few short =

@@ -11,10 +11,12 @@ use Rattle.cd_file.specs.Files.{block_spelling}
 use Rattle.cd_file.proofs.Sizes.{map_short, entries_more, entries_end, entry_short}
 use Rattle.cd_file.proofs.MapSizes.{statistics_short}
 use Rattle.cd_block.specs.declared.kept.KeptBlock.{KeptBlock}
+use Rattle.cd_block.specs.declared.kept.KeptItem.{KeptItem}
+use Rattle.cd_block.specs.declared.kept.KeptMalformed.{KeptMalformed}
 use Rattle.cd_block.specs.declared.stamp.Stamp.{Stamp}
 use Rattle.cd_block.specs.Tables.{KeptTables, tables_of, question_index, record_index, indexed_signature, indexed_question, indexed_record, indexed_data, indexed_item, indexed_malformed, indexed_in}
 use Rattle.cd_block.specs.Traversal.{Visited, visited, visited_item, visited_malformed}
-use Rattle.cd_size.specs.Costs.{size, value_size}
+use Rattle.cd_size.specs.Costs.{size, value_size, item_cost, malformed_cost}
 use Rattle.cd_size.specs.Laws.{KeptBlocksAreShort}
 use Rattle.cd_size.proofs.Totals.{total, sum_is_total, total_append, total_flat_map, total_map}
 use Rattle.cd_size.proofs.Arrays.{array_short, numbers_total, entry_there, optional_array_short, optional_map_short}
@@ -33,10 +35,12 @@ preamble_short earliest =
 -- an array of what is made of some values
 optional_array_of : {X Y : Type 0} (f : Y → Item) (g : X → Y) (key : ℕ) (xs : List X) → nat_lt key 24 ≡ true →
     length (entry_spelling key (optional_array (map f (map g xs)))) ≤ 10 + total (λ x. size (f (g x))) xs
-optional_array_of f g key xs small = omega (arith, optional_array_short f key (map g xs) small, total_map (λ y. size (f y)) g xs)
+optional_array_of f g key xs small =
+    omega (arith, optional_array_short f key (map g xs) small, total_map (λ y. size (f y)) g xs)
 
 -- the tables of a block
-tables_short : (t : KeptTables) (b : KeptBlock) → length (entries_spelling (table_entries (indexed_in t b))) ≤ 90 + tables_size t t
+tables_short : (t : KeptTables) (b : KeptBlock) →
+    length (entries_spelling (table_entries (indexed_in t b))) ≤ 90 + tables_size t t
 unfolding indexed_in
 tables_short t b =
     let lengths = entries_more _ _ _ _ _ (optional_array_short bytes 0 t.ip_address refl)
@@ -56,7 +60,8 @@ block_within : (t : KeptTables) (b : KeptBlock) → length (block_spelling (inde
     + total (λ m. size (malformed_item (indexed_malformed t m))) b.malformed))
 unfolding block_spelling indexed_in
 block_within t b =
-    let lengths = entries_more _ _ _ _ _ (entry_there 0 29 (block_preamble_item b.earliest) refl (preamble_short b.earliest))
+    let lengths =
+    entries_more _ _ _ _ _ (entry_there 0 29 (block_preamble_item b.earliest) refl (preamble_short b.earliest))
     (entries_more _ _ _ _ _ (entry_short statistics_item 1 61 b.stats refl statistics_short)
     (entries_more _ _ _ _ _ (optional_map_short 2 _ (table_entries (indexed_in t b)) refl (omega arith) (tables_short t b))
     (entries_more _ _ _ _ _ (optional_array_of query_response_item (indexed_item t) 3 b.items refl)
@@ -80,16 +85,36 @@ costs_in_turn : {X : Type 0} (own : X → ℕ) (f : Visited → ℕ) (uses : X �
     sum_by (λ x. own x + sum_by f (uses x)) xs ≡ total own xs + total (λ x. total f (uses x)) xs
 costs_in_turn own f uses [] = refl
 costs_in_turn own f uses (x ∷ xs) =
-    omega (arith, sum_by-cons (λ y. own y + sum_by f (uses y)) x xs, sum_is_total f (uses x), costs_in_turn own f uses xs)
+    omega (
+      arith,
+      sum_by-cons (λ y. own y + sum_by f (uses y)) x xs,
+      sum_is_total f (uses x),
+      costs_in_turn own f uses xs,
+    )
+
+-- what items cost
+items_in_turn : (t : KeptTables) (items : List KeptItem) → sum_by (item_cost t) items ≡
+    total (λ i. size (query_response_item (indexed_item t i))) items + total (λ i. total (value_size t) (visited_item i)) items
+items_in_turn t items = costs_in_turn (λ i. size (query_response_item (indexed_item t i))) (value_size t) visited_item items
+
+-- what malformed messages cost
+malformed_in_turn : (t : KeptTables) (ms : List KeptMalformed) → sum_by (malformed_cost t) ms ≡
+    total (λ m. size (malformed_item (indexed_malformed t m))) ms + total (λ m. total (value_size t) (visited_malformed m)) ms
+malformed_in_turn t ms = costs_in_turn (λ m. size (malformed_item (indexed_malformed t m))) (value_size t) visited_malformed ms
+
+-- a kept block with tables that take no more than what it uses
+block_costs : (t : KeptTables) (b : KeptBlock) → tables_size t t ≤ total (value_size t) (visited b) →
+    length (block_spelling (indexed_in t b)) ≤ 205 + (sum_by (item_cost t) b.items + sum_by (malformed_cost t) b.malformed)
+block_costs t b within =
+    omega (
+      arith,
+      block_within t b,
+      within,
+      visits_of_block (value_size t) b,
+      items_in_turn t b.items,
+      malformed_in_turn t b.malformed,
+    )
 
 -- a kept block with its own tables
 pub kept_blocks_short : KeptBlocksAreShort
-kept_blocks_short b =
-    omega (
-      arith,
-      block_within (tables_of (visited b)) b,
-      tables_within (tables_of (visited b)) (visited b),
-      visits_of_block (value_size (tables_of (visited b))) b,
-      costs_in_turn (λ i. size (query_response_item (indexed_item (tables_of (visited b)) i))) (value_size (tables_of (visited b))) visited_item b.items,
-      costs_in_turn (λ m. size (malformed_item (indexed_malformed (tables_of (visited b)) m))) (value_size (tables_of (visited b))) visited_malformed b.malformed,
-    )
+kept_blocks_short b = block_costs (tables_of (visited b)) b (tables_within (tables_of (visited b)) (visited b))

@@ -76,14 +76,16 @@ additional_small m fit = small_records m.additional fit.valid.additional.records
 -- the additional records of a response that are kept
 additional_cost : (t : KeptTables) (p : Params) (bit : ℕ) (m : dns.Message) → MessageIsFit m →
     records_cost t (kept_records p bit m.additional) ≤ 15 + total record_weight m.additional
-additional_cost t p bit m fit = section_cost t p bit m.additional fit.valid.additional.few_records (additional_small m fit)
+additional_cost t p bit m fit =
+    section_cost t p bit m.additional fit.valid.additional.few_records (additional_small m fit)
 
 -- those of a query that are kept, none of which is an OPT record
 without_opt_cost : (t : KeptTables) (p : Params) (bit : ℕ) (m : dns.Message) → MessageIsFit m →
     records_cost t (kept_records p bit (without_opt m.additional)) ≤ 15 + total record_weight (without_opt m.additional)
 without_opt_cost t p bit m fit =
     let all = fit.valid.additional.few_records in
-    let few : length (without_opt m.additional) ≤ 65535 = omega (arith, all, length_filter_few (λ x. not (is_opt x)) m.additional) in
+    let few : length (without_opt m.additional) ≤ 65535 =
+    omega (arith, all, length_filter_few (λ x. not (is_opt x)) m.additional) in
     section_cost t p bit (without_opt m.additional) few (all_filter RrIsSmall (λ x. not (is_opt x)) m.additional (additional_small m fit))
 
 -- the questions of a message after the first
@@ -93,7 +95,8 @@ questions_after_first t p m fit =
     questions_share t p.hints m.questions fit.valid.few_questions (ranged_questions m.questions fit.range.questions)
 
 -- the weight of a message as sums by recursion
-weight_in_turn : (m : dns.Message) → weight_of m ≡ 256 + total question_weight m.questions + total record_weight m.answers
+weight_in_turn : (m : dns.Message) →
+    weight_of m ≡ 256 + total question_weight m.questions + total record_weight m.answers
     + total record_weight m.authority + total record_weight m.additional
 weight_in_turn m =
     omega (
@@ -179,18 +182,22 @@ lead_share None = 0
 lead_share (Some q) = 11 + length q.name
 
 -- the first question of a valid message is fit
-first_fits : (qs : List Question) → All (λ q. IsName q.name) qs → All QuestionInRange qs → IfSome (slice_get qs 0) QuestionIsFit
+first_fits : (qs : List Question) → All (λ q. IsName q.name) qs → All QuestionInRange qs →
+    IfSome (slice_get qs 0) QuestionIsFit
 first_fits [] names range = tt
 first_fits (q ∷ qs) names range =
-    let name = All-head (λ x. IsName x.name) q qs names in record { name = name.1; range = All-head QuestionInRange q qs range }
+    let name =
+    All-head (λ x. IsName x.name) q qs names in record { name = name.1; range = All-head QuestionInRange q qs range }
 
 -- so it is where there is a message
-pub first_question_fits : (m : Option dns.Message) → IfSome m MessageIsFit → IfSome (option_and_then first_question m) QuestionIsFit
+pub first_question_fits : (m : Option dns.Message) → IfSome m MessageIsFit →
+    IfSome (option_and_then first_question m) QuestionIsFit
 first_question_fits None fit = tt
 first_question_fits (Some m) fit = first_fits m.questions fit.valid.names_are_names fit.range.questions
 
 -- of two questions, the first that is there
-pub either_fits : (a b : Option Question) → IfSome a QuestionIsFit → IfSome b QuestionIsFit → IfSome (option_or a b) QuestionIsFit
+pub either_fits : (a b : Option Question) → IfSome a QuestionIsFit → IfSome b QuestionIsFit →
+    IfSome (option_or a b) QuestionIsFit
 either_fits None b here there = there
 either_fits (Some q) b here there = here
 
@@ -215,7 +222,8 @@ pub lead_cost : (t : KeptTables) (q : Option Question) → IfSome q QuestionIsFi
     + cost t (where_present visited_bytes (option_map (λ x. x.name) q)) ≤ lead_share q
 lead_cost t None fit = omega arith
 lead_cost t (Some q) fit =
-    let classtype : size (classtype_item (q.rtype, q.rclass)) ≤ 9 = classtype_short (q.rtype, q.rclass) (record { rtype = fit.range.rtype; rclass = fit.range.rclass }) in
+    let classtype : size (classtype_item (q.rtype, q.rclass)) ≤ 9 =
+    classtype_short (q.rtype, q.rclass) (record { rtype = fit.range.rtype; rclass = fit.range.rclass }) in
     omega (arith, classtype, name_short q.name fit.name)
 
 -- the options of an OPT record
@@ -228,4 +236,5 @@ found_opt_cost t (Some r) small = omega (arith, rdata_short r.rdata small.rdata)
 pub opt_cost : (t : KeptTables) (m : Option dns.Message) → IfSome m MessageIsFit →
     cost t (where_present visited_bytes (option_map (λ x. x.rdata) (option_and_then opt_of_message m))) ≤ opt_of m
 opt_cost t None fit = omega arith
-opt_cost t (Some m) fit = found_opt_cost t (find is_opt m.additional) (all_find RrIsSmall is_opt m.additional (additional_small m fit))
+opt_cost t (Some m) fit =
+    found_opt_cost t (find is_opt m.additional) (all_find RrIsSmall is_opt m.additional (additional_small m fit))

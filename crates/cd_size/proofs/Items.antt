@@ -1,5 +1,5 @@
 -- What the item of a record costs: at most 195 bytes beside its query and its response.
-use Rattle.std.proofs.Common.{◌+◌, ◌<◌, ◌≤◌, ◌++◌, length, Some, arith}
+use Rattle.std.proofs.Common.{◌+◌, ◌<◌, ◌≤◌, length, Some, arith}
 use Rattle.std.specs.Prelude.{IfSome, option_and_then}
 use Rattle.std.specs.Option.{option_map}
 use Rattle.cd_file.specs.Ranges.{ItemInRange}
@@ -15,15 +15,15 @@ use Rattle.cd_hints.specs.Items.{kept_item, kept_signature, query_opt, lead_ques
 use Rattle.cd_hints.specs.Records.{RecordParts, main_event, query_of, query_message, response_message}
 use Rattle.cd_size.specs.Costs.{value_size, item_cost}
 use Rattle.cd_size.specs.Ranges.{EventInRange}
-use Rattle.cd_size.proofs.Totals.{total_append, sum_is_total}
-use Rattle.cd_size.proofs.Fits.{MessageIsFit}
+use Rattle.cd_size.proofs.Totals.{total_five, sum_is_total}
 use Rattle.cd_size.proofs.SignatureRanges.{IsFit, kept_within, kept_word, kept_byte, word_of, mapped, signature_in_range}
 use Rattle.cd_size.proofs.Parts.{cost, stored_short, kept_cost, address_cost, signature_cost}
 use Rattle.cd_size.proofs.Lists.{lists_cost}
 use Rattle.cd_size.proofs.Halves.{query_cost, response_cost, first_of, opt_of, first_question_fits, either_fits, either_share, first_of_message, lead_cost, opt_cost}
 
 -- an item's number of two bytes, and its byte
-item_in_range : (t : KeptTables) (p : Params) (earliest : Stamp) (r : RecordParts) → IsFit r → ItemInRange (indexed_item t (kept_item p earliest r))
+item_in_range : (t : KeptTables) (p : Params) (earliest : Stamp) (r : RecordParts) → IsFit r →
+    ItemInRange (indexed_item t (kept_item p earliest r))
 unfolding indexed_item
 item_in_range t p earliest r fit = record {
   client_port = kept_word _ _ (Some (main_event r).client_port) fit.main.client_port;
@@ -42,15 +42,11 @@ item_in_turn t i range =
       arith,
       item_short (indexed_item t i) range,
       sum_is_total (value_size t) (visited_item i),
-      total_append (value_size t) (where_present visited_address i.client_address) (where_present visited_signature i.signature),
-      total_append (value_size t) (where_present visited_address i.client_address ++ where_present visited_signature i.signature)
-          (where_present visited_bytes i.query_name),
-      total_append (value_size t)
-          (where_present visited_address i.client_address ++ where_present visited_signature i.signature ++ where_present visited_bytes i.query_name)
-          (visited_lists i.query_extended),
-      total_append (value_size t)
-          (where_present visited_address i.client_address ++ where_present visited_signature i.signature ++ where_present visited_bytes i.query_name
-          ++ visited_lists i.query_extended)
+      total_five (value_size t)
+          (where_present visited_address i.client_address)
+          (where_present visited_signature i.signature)
+          (where_present visited_bytes i.query_name)
+          (visited_lists i.query_extended)
           (visited_lists i.response_extended),
     )
 
@@ -60,7 +56,8 @@ lead_of_record : (t : KeptTables) (r : RecordParts) → IsFit r →
     + cost t (where_present visited_bytes (option_map (λ x. x.name) (lead_question r)))
     ≤ first_of (query_message r) + first_of (response_message r)
 lead_of_record t r fit =
-    let fits = either_fits (option_and_then first_question (query_message r)) (option_and_then first_question (response_message r))
+    let fits =
+    either_fits (option_and_then first_question (query_message r)) (option_and_then first_question (response_message r))
     (first_question_fits (query_message r) fit.query) (first_question_fits (response_message r) fit.response) in
     omega (
       arith,
@@ -71,13 +68,15 @@ lead_of_record t r fit =
     )
 
 -- the server's address
-server_kept : (p : Params) (r : RecordParts) → IsFit r → IfSome (kept_signature p r).server_address (λ content. length content ≤ 16)
+server_kept : (p : Params) (r : RecordParts) → IsFit r →
+    IfSome (kept_signature p r).server_address (λ content. length content ≤ 16)
 server_kept p r fit =
     kept_within (λ content. length content ≤ 16) _ _ (Some (server_address p.prefixes (main_event r).server))
     (stored_short (server_prefix p.prefixes (main_event r).server.v6) (main_event r).server fit.main.server)
 
 -- the client's address
-client_kept : (p : Params) (earliest : Stamp) (r : RecordParts) → IsFit r → IfSome (kept_item p earliest r).client_address (λ content. length content ≤ 16)
+client_kept : (p : Params) (earliest : Stamp) (r : RecordParts) → IsFit r →
+    IfSome (kept_item p earliest r).client_address (λ content. length content ≤ 16)
 client_kept p earliest r fit =
     kept_within (λ content. length content ≤ 16) _ _ (Some (client_address p.prefixes (main_event r).client))
     (stored_short (client_prefix p.prefixes (main_event r).client.v6) (main_event r).client fit.main.client)

@@ -1,5 +1,5 @@
 -- The numbers of a message that is read of bytes are in the ranges of their types.
-use Rattle.std.proofs.Common.{◌≡◌, ℕ, ◌+◌, ◌*◌, ◌<◌, List, [], ◌∷◌, arith}
+use Rattle.std.proofs.Common.{ℕ, ◌+◌, ◌<◌, List, arith}
 use Rattle.std.specs.List.{All}
 use Rattle.std.proofs.lemmas.List.Elements.{All-nil, All-cons}
 use Rattle.cd_bytes.specs.Numbers.{be16, be32}
@@ -7,7 +7,7 @@ use Rattle.cd_message.specs.declared.message.Question.{Question}
 use Rattle.cd_message.specs.declared.message.Rr.{Rr}
 use Rattle.cd_message.specs.declared.message.Message.{Message}
 use Rattle.cd_message.specs.MessageLaws.{AreBytes}
-use Rattle.cd_message.specs.Messages.{message_of, Spells}
+use Rattle.cd_message.specs.Messages.{Spells}
 use Rattle.cd_message.specs.Rules.{ReadsEach, none, one_more, ReadsQuestion, ReadsRecord, ReadsMessage}
 use Rattle.cd_message.proofs.MessagesByRules.{spelled_by_rules}
 use Rattle.cd_size.specs.Ranges.{QuestionInRange, RrInRange, MessageInRange}
@@ -23,7 +23,8 @@ unfolding be32
 long_short at p bytes = omega (arith, bytes at, bytes (at + 1), bytes (at + 2), bytes (at + 3))
 
 -- a question
-question_ranged : (p : List ℕ) → AreBytes p → (at : ℕ) (q : Question) (next : ℕ) → ReadsQuestion p at q next → QuestionInRange q
+question_ranged : (p : List ℕ) → AreBytes p → (at : ℕ) (q : Question) (next : ℕ) → ReadsQuestion p at q next →
+    QuestionInRange q
 question_ranged p bytes at q next reads = record {
   rtype = omega (arith, reads.is_type, word_short reads.name_end p bytes);
   rclass = omega (arith, reads.is_class, word_short (reads.name_end + 2) p bytes);

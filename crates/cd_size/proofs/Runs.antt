@@ -43,7 +43,8 @@ pair_fits query response q r = record {
 }
 
 -- an item of a pair
-pair_cost : (t : KeptTables) (p : Params) (earliest : Stamp) (query response : EventParts) → EventInRange query → EventInRange response →
+pair_cost : (t : KeptTables) (p : Params) (earliest : Stamp) (query response : EventParts) → EventInRange query →
+    EventInRange response →
     item_cost t (kept_item p earliest (pair query response)) ≤ query.weight + response.weight
 pair_cost t p earliest query response q r =
     omega (
@@ -60,16 +61,30 @@ query_item_cost : (t : KeptTables) (p : Params) (earliest : Stamp) (e : EventPar
     item_cost t (kept_item p earliest (unmatched_query e)) ≤ e.weight
 query_item_cost t p earliest e range =
     let message = message_is_fit e.kind e.body range.has_body range.body in
-    let fits : IsFit (unmatched_query e) = record { main = range; main_fits = message; query_event = range; query = message; response = tt } in
-    omega (arith, item_of_record t p earliest (unmatched_query e) fits, query_body_cost t p e.body message, no_response_cost t p, range.weight)
+    let fits : IsFit (unmatched_query e) =
+    record { main = range; main_fits = message; query_event = range; query = message; response = tt } in
+    omega (
+      arith,
+      item_of_record t p earliest (unmatched_query e) fits,
+      query_body_cost t p e.body message,
+      no_response_cost t p,
+      range.weight,
+    )
 
 -- an item of a response
 response_item_cost : (t : KeptTables) (p : Params) (earliest : Stamp) (e : EventParts) → EventInRange e →
     item_cost t (kept_item p earliest (unmatched_response e)) ≤ e.weight
 response_item_cost t p earliest e range =
     let message = message_is_fit e.kind e.body range.has_body range.body in
-    let fits : IsFit (unmatched_response e) = record { main = range; main_fits = message; query_event = tt; query = tt; response = message } in
-    omega (arith, item_of_record t p earliest (unmatched_response e) fits, response_body_cost t p e.body message, no_query_cost t p, range.weight)
+    let fits : IsFit (unmatched_response e) =
+    record { main = range; main_fits = message; query_event = tt; query = tt; response = message } in
+    omega (
+      arith,
+      item_of_record t p earliest (unmatched_response e) fits,
+      response_body_cost t p e.body message,
+      no_query_cost t p,
+      range.weight,
+    )
 
 -- the payload of a malformed message is part of its weight
 payload_weighs : (body : Body) → 256 + string_length (payload_in body) ≤ body_weight body
@@ -82,7 +97,8 @@ data_cost : (t : KeptTables) (p : Params) (e : EventParts) → EventInRange e �
     cost t (visited_data (kept_data p e)) ≤ 45 + string_length (payload_in e.body)
 unfolding visited_data indexed_data
 data_cost t p e range =
-    let ranges : DataInRange (indexed_data t (kept_data p e)) = record { server_port = range.server_port; transport_flags = transport_flags_short e false range.transport } in
+    let ranges : DataInRange (indexed_data t (kept_data p e)) =
+    record { server_port = range.server_port; transport_flags = transport_flags_short e false range.transport } in
     let server = stored_short (server_prefix p.prefixes e.server.v6) e.server range.server in
     omega (
       arith,
@@ -95,7 +111,8 @@ malformed_record_cost : (t : KeptTables) (p : Params) (earliest : Stamp) (e : Ev
     malformed_cost t (kept_malformed p earliest (malformed e)) ≤ e.weight
 unfolding visited_malformed indexed_malformed
 malformed_record_cost t p earliest e range =
-    let ranges : MalformedInRange (indexed_malformed t (kept_malformed p earliest (malformed e))) = record { client_port = range.client_port } in
+    let ranges : MalformedInRange (indexed_malformed t (kept_malformed p earliest (malformed e))) =
+    record { client_port = range.client_port } in
     let client = stored_short (client_prefix p.prefixes e.client.v6) e.client range.client in
     omega (
       arith,
@@ -121,16 +138,32 @@ run_total t p earliest (pair query response ∷ run) all =
     let events = All-head RecordInRange (pair query response) run all in
     let q = All-head EventInRange query (response ∷ []) events in
     let r = only_event response (All-tail EventInRange query (response ∷ []) events) in
-    omega (arith, pair_cost t p earliest query response q r, run_total t p earliest run (All-tail RecordInRange (pair query response) run all))
+    omega (
+      arith,
+      pair_cost t p earliest query response q r,
+      run_total t p earliest run (All-tail RecordInRange (pair query response) run all),
+    )
 run_total t p earliest (unmatched_query e ∷ run) all =
     let range = only_event e (All-head RecordInRange (unmatched_query e) run all) in
-    omega (arith, query_item_cost t p earliest e range, run_total t p earliest run (All-tail RecordInRange (unmatched_query e) run all))
+    omega (
+      arith,
+      query_item_cost t p earliest e range,
+      run_total t p earliest run (All-tail RecordInRange (unmatched_query e) run all),
+    )
 run_total t p earliest (unmatched_response e ∷ run) all =
     let range = only_event e (All-head RecordInRange (unmatched_response e) run all) in
-    omega (arith, response_item_cost t p earliest e range, run_total t p earliest run (All-tail RecordInRange (unmatched_response e) run all))
+    omega (
+      arith,
+      response_item_cost t p earliest e range,
+      run_total t p earliest run (All-tail RecordInRange (unmatched_response e) run all),
+    )
 run_total t p earliest (malformed e ∷ run) all =
     let range = only_event e (All-head RecordInRange (malformed e) run all) in
-    omega (arith, malformed_record_cost t p earliest e range, run_total t p earliest run (All-tail RecordInRange (malformed e) run all))
+    omega (
+      arith,
+      malformed_record_cost t p earliest e range,
+      run_total t p earliest run (All-tail RecordInRange (malformed e) run all),
+    )
 run_total t p earliest (discarded e ∷ run) all =
     omega (arith, run_total t p earliest run (All-tail RecordInRange (discarded e) run all))
 

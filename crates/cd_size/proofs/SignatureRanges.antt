@@ -15,7 +15,7 @@ use Rattle.cd_ident.specs.Headers.{opcode_of}
 use Rattle.cd_ident.specs.Identifiers.{transport_of}
 use Rattle.cd_hints.specs.Hinted.{is_hinted, kept}
 use Rattle.cd_hints.specs.Flags.{flag_where, transport_flags, signature_flags, dns_flags, query_signature_flags, response_signature_flags, query_dns_flags, response_dns_flags, has_opt, has_no_question, is_dnssec_ok}
-use Rattle.cd_hints.specs.Items.{kept_signature, query_opt, main_message, is_query_trailing}
+use Rattle.cd_hints.specs.Items.{kept_signature, main_message, is_query_trailing}
 use Rattle.cd_hints.specs.Records.{RecordParts, main_event, query_of, query_message, response_message}
 use Rattle.cd_file.specs.Ranges.{IsByte, IsWord, SignatureInRange}
 use Rattle.cd_size.specs.Ranges.{EventInRange}
@@ -27,11 +27,13 @@ there_or_not P true v holds = holds
 there_or_not P false v holds = tt
 
 -- what holds of a value holds of what is kept of it
-pub kept_within : {X : Type 0} (P : X → Type 0) (hints hint : ℕ) (v : Option X) → IfSome v P → IfSome (kept hints hint v) P
+pub kept_within : {X : Type 0} (P : X → Type 0) (hints hint : ℕ) (v : Option X) → IfSome v P →
+    IfSome (kept hints hint v) P
 kept_within P hints hint v holds = there_or_not P (is_hinted hints hint) v holds
 
 -- what holds of a value that is made of another
-pub mapped : {X Y : Type 0} (P : X → Type 0) (Q : Y → Type 0) (f : X → Y) (v : Option X) → ((x : X) → P x → Q (f x)) → IfSome v P → IfSome (option_map f v) Q
+pub mapped : {X Y : Type 0} (P : X → Type 0) (Q : Y → Type 0) (f : X → Y) (v : Option X) → ((x : X) → P x → Q (f x)) →
+    IfSome v P → IfSome (option_map f v) Q
 mapped P Q f None follows holds = tt
 mapped P Q f (Some x) follows holds = follows x holds
 
@@ -41,7 +43,8 @@ flag_small true n = omega arith
 flag_small false n = omega arith
 
 -- transport flags
-pub transport_flags_short : (e : EventParts) (trailing : Bool) → transport_of e.ids ≤ 15 → transport_flags e trailing < 0x100
+pub transport_flags_short : (e : EventParts) (trailing : Bool) → transport_of e.ids ≤ 15 →
+    transport_flags e trailing < 0x100
 transport_flags_short e trailing few = omega (arith, few, flag_small e.client.v6 1, flag_small trailing 32)
 
 -- signature flags of a query
@@ -62,13 +65,32 @@ signature_flags_short query response = omega (arith, query_part query, response_
 query_bits : (m : Option Message) → option_map_or query_dns_flags m 0 ≤ 255
 query_bits None = omega arith
 query_bits (Some m) =
-    omega (arith, flag_small (is_dnssec_ok m) 128, bit_at-lt m.bits 4, bit_at-lt m.bits 5, bit_at-lt m.bits 6, bit_at-lt m.bits 7, bit_at-lt m.bits 8, bit_at-lt m.bits 9, bit_at-lt m.bits 10)
+    omega (
+      arith,
+      flag_small (is_dnssec_ok m) 128,
+      bit_at-lt m.bits 4,
+      bit_at-lt m.bits 5,
+      bit_at-lt m.bits 6,
+      bit_at-lt m.bits 7,
+      bit_at-lt m.bits 8,
+      bit_at-lt m.bits 9,
+      bit_at-lt m.bits 10,
+    )
 
 -- DNS flags of a response
 response_bits : (m : Option Message) → option_map_or response_dns_flags m 0 ≤ 32512
 response_bits None = omega arith
 response_bits (Some m) =
-    omega (arith, bit_at-lt m.bits 4, bit_at-lt m.bits 5, bit_at-lt m.bits 6, bit_at-lt m.bits 7, bit_at-lt m.bits 8, bit_at-lt m.bits 9, bit_at-lt m.bits 10)
+    omega (
+      arith,
+      bit_at-lt m.bits 4,
+      bit_at-lt m.bits 5,
+      bit_at-lt m.bits 6,
+      bit_at-lt m.bits 7,
+      bit_at-lt m.bits 8,
+      bit_at-lt m.bits 9,
+      bit_at-lt m.bits 10,
+    )
 
 -- DNS flags
 dns_flags_short : (query response : Option Message) → dns_flags query response < 0x1_0000
@@ -80,7 +102,8 @@ opcode_short bits = omega arith
 
 -- the OPT record of a message is small
 found_opt : (m : Message) → MessageIsFit m → IfSome (find is_opt m.additional) RrIsSmall
-found_opt m fit = all_find RrIsSmall is_opt m.additional (small_records m.additional fit.valid.additional.records_are_valid fit.range.additional)
+found_opt m fit =
+    all_find RrIsSmall is_opt m.additional (small_records m.additional fit.valid.additional.records_are_valid fit.range.additional)
 
 -- the top byte of its TTL is a byte
 ext_rcode_short : (o : Option Rr) → IfSome o RrIsSmall → option_map_or ext_rcode_of o 0 < 0x100
@@ -97,17 +120,20 @@ version_short None = tt
 version_short (Some r) = omega arith
 
 -- the size of a payload that the sender takes
-udp_size_short : (o : Option Rr) → IfSome o RrIsSmall → IfSome (option_map (λ o. o.udp_size) (option_map opt_of_record o)) (λ n. n < 0x1_0000)
+udp_size_short : (o : Option Rr) → IfSome o RrIsSmall →
+    IfSome (option_map (λ o. o.udp_size) (option_map opt_of_record o)) (λ n. n < 0x1_0000)
 udp_size_short None small = tt
 udp_size_short (Some r) small = small.range.rclass
 
 -- the version of a query's OPT record
-query_version : (m : Option Message) → IfSome (option_map (λ o. o.version) (option_and_then opt_of_message m)) (λ n. n < 0x100)
+query_version : (m : Option Message) →
+    IfSome (option_map (λ o. o.version) (option_and_then opt_of_message m)) (λ n. n < 0x100)
 query_version None = tt
 query_version (Some m) = version_short (find is_opt m.additional)
 
 -- the size that a query's OPT record says
-query_size : (m : Option Message) → IfSome m MessageIsFit → IfSome (option_map (λ o. o.udp_size) (option_and_then opt_of_message m)) (λ n. n < 0x1_0000)
+query_size : (m : Option Message) → IfSome m MessageIsFit →
+    IfSome (option_map (λ o. o.udp_size) (option_and_then opt_of_message m)) (λ n. n < 0x1_0000)
 query_size None fit = tt
 query_size (Some m) fit = udp_size_short (find is_opt m.additional) (found_opt m fit)
 

@@ -1,7 +1,7 @@
 -- Sums over lists, by recursion: of lists in turn, of what a filter keeps, and of a table's values.
 use Rattle.std.proofs.Common.{◌≡◌, ℕ, ◌+◌, ◌≤◌, Bool, true, false, not, List, [], ◌∷◌, ◌++◌, map, refl, arith}
 use Rattle.std.specs.Prelude.{if◌then◌else◌}
-use Rattle.std.specs.List.{AllByRecursion, filter, flat_map, sum_by}
+use Rattle.std.specs.List.{filter, flat_map, sum_by}
 use Rattle.std.proofs.lemmas.List.Sums.{sum_by-cons}
 use Rattle.cd_block.specs.Tables.{table_of}
 
@@ -20,8 +20,23 @@ pub total_append : {X : Type 0} (f : X → ℕ) (xs ys : List X) → total f (xs
 total_append f [] ys = omega arith
 total_append f (x ∷ xs) ys = omega (arith, total_append f xs ys)
 
+-- three lists in turn
+pub total_three : {X : Type 0} (f : X → ℕ) (xs ys zs : List X) → total f (xs ++ ys ++ zs) ≡ total f xs + total f ys + total f zs
+total_three f xs ys zs = omega (arith, total_append f (xs ++ ys) zs, total_append f xs ys)
+
+-- four lists in turn
+pub total_four : {X : Type 0} (f : X → ℕ) (xs ys zs vs : List X) →
+    total f (xs ++ ys ++ zs ++ vs) ≡ total f xs + total f ys + total f zs + total f vs
+total_four f xs ys zs vs = omega (arith, total_append f (xs ++ ys ++ zs) vs, total_three f xs ys zs)
+
+-- five lists in turn
+pub total_five : {X : Type 0} (f : X → ℕ) (xs ys zs vs ws : List X) →
+    total f (xs ++ ys ++ zs ++ vs ++ ws) ≡ total f xs + total f ys + total f zs + total f vs + total f ws
+total_five f xs ys zs vs ws = omega (arith, total_append f (xs ++ ys ++ zs ++ vs) ws, total_four f xs ys zs vs)
+
 -- the lists of some values in turn
-pub total_flat_map : {X Y : Type 0} (f : Y → ℕ) (g : X → List Y) (xs : List X) → total f (flat_map g xs) ≡ total (λ x. total f (g x)) xs
+pub total_flat_map : {X Y : Type 0} (f : Y → ℕ) (g : X → List Y) (xs : List X) →
+    total f (flat_map g xs) ≡ total (λ x. total f (g x)) xs
 total_flat_map f g [] = refl
 total_flat_map f g (x ∷ xs) = omega (arith, total_append f (g x) (flat_map g xs), total_flat_map f g xs)
 
@@ -30,19 +45,9 @@ pub total_map : {X Y : Type 0} (f : Y → ℕ) (g : X → Y) (xs : List X) → t
 total_map f g [] = refl
 total_map f g (x ∷ xs) = omega (arith, total_map f g xs)
 
--- a sum of two numbers of each value
-pub total_plus : {X : Type 0} (f g : X → ℕ) (xs : List X) → total (λ x. f x + g x) xs ≡ total f xs + total g xs
-total_plus f g [] = refl
-total_plus f g (x ∷ xs) = omega (arith, total_plus f g xs)
-
--- a number that is at most another, of values of which something holds
-pub total_below : {X : Type 0} (P : X → Type 0) (f g : X → ℕ) (xs : List X) → ((x : X) → P x → f x ≤ g x) → AllByRecursion P xs →
-    total f xs ≤ total g xs
-total_below P f g [] below all = omega arith
-total_below P f g (x ∷ xs) below all = omega (arith, below x all.0, total_below P f g xs below all.1)
-
 -- a value that is kept or not
-kept_or_not : {X : Type 0} (f : X → ℕ) (b : Bool) (x : X) (xs : List X) → total f (if b then x ∷ xs else xs) ≤ f x + total f xs
+kept_or_not : {X : Type 0} (f : X → ℕ) (b : Bool) (x : X) (xs : List X) →
+    total f (if b then x ∷ xs else xs) ≤ f x + total f xs
 kept_or_not f true x xs = omega arith
 kept_or_not f false x xs = omega arith
 
@@ -54,4 +59,5 @@ total_filter f p (x ∷ xs) = omega (arith, kept_or_not f (p x) x (filter p xs),
 -- the values of a table, each of which is used
 pub total_table : {X : Type 0} (f : X → ℕ) (same : X → X → Bool) (xs : List X) → total f (table_of same xs) ≤ total f xs
 total_table f same [] = omega arith
-total_table f same (x ∷ xs) = omega (arith, total_filter f (λ w. not (same x w)) (table_of same xs), total_table f same xs)
+total_table f same (x ∷ xs) =
+    omega (arith, total_filter f (λ w. not (same x w)) (table_of same xs), total_table f same xs)

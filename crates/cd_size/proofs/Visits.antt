@@ -37,7 +37,8 @@ all_used values = record {
 }
 
 -- each value is of one kind
-kinds_together : (t : KeptTables) (values : List Visited) → tables_size t (all_used values) ≡ total (value_size t) values
+kinds_together : (t : KeptTables) (values : List Visited) →
+    tables_size t (all_used values) ≡ total (value_size t) values
 kinds_together t [] = refl
 kinds_together t (Address x ∷ values) = omega (arith, kinds_together t values)
 kinds_together t (ClassType x ∷ values) = omega (arith, kinds_together t values)
@@ -50,7 +51,8 @@ kinds_together t (Record x ∷ values) = omega (arith, kinds_together t values)
 kinds_together t (MalformedData x ∷ values) = omega (arith, kinds_together t values)
 
 -- a table has at most the values that are used
-pub tables_within : (t : KeptTables) (values : List Visited) → tables_size t (tables_of values) ≤ total (value_size t) values
+pub tables_within : (t : KeptTables) (values : List Visited) →
+    tables_size t (tables_of values) ≤ total (value_size t) values
 tables_within t values =
     omega (
       arith,

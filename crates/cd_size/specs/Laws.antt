@@ -18,7 +18,8 @@ use Rattle.cd_size.specs.Costs.{item_cost, malformed_cost}
 -- a kept block takes at most 205 bytes, and the costs of its items and of its malformed messages
 abbrev pub KeptBlocksAreShort : Type 0
 KeptBlocksAreShort = (b : KeptBlock) → length (block_spelling (indexed b)) ≤
-    205 + (sum_by (item_cost (tables_of (visited b))) b.items + sum_by (malformed_cost (tables_of (visited b))) b.malformed)
+    205 + (sum_by (item_cost (tables_of (visited b))) b.items
+    + sum_by (malformed_cost (tables_of (visited b))) b.malformed)
 
 -- the block of a run takes at most the weight of the run and 1,024 bytes, whatever the parameters are
 abbrev pub BlocksAreLight : Type 0
