@@ -30,7 +30,8 @@ stamp_short s =
 -- the preamble of a block
 preamble_short : (earliest : Option Stamp) → size (block_preamble_item earliest) ≤ 29
 preamble_short earliest =
-    map_short _ 28 (omega arith) (entries_more _ _ _ 28 0 (entry_short stamp_item _ 27 earliest refl stamp_short) entries_end)
+    map_short _ 28 (omega arith)
+    (entries_more _ _ _ 28 0 (entry_short stamp_item _ 27 earliest refl stamp_short) entries_end)
 
 -- an array of what is made of some values
 optional_array_of : {X Y : Type 0} (f : Y → Item) (g : X → Y) (key : ℕ) (xs : List X) → nat_lt key 24 ≡ true →
@@ -51,7 +52,8 @@ tables_short t b =
     (entries_more _ _ _ _ _ (optional_array_of question_item (indexed_question t) 5 t.qrr refl)
     (entries_more _ _ _ _ _ (optional_array_of numbers (map (record_index t)) 6 t.rrlist refl)
     (entries_more _ _ _ _ _ (optional_array_of rr_item (indexed_record t) 7 t.rr refl)
-    (entries_more _ _ _ _ _ (optional_array_of malformed_data_item (indexed_data t) 8 t.malformed_message_data refl) entries_end)))))))) in
+    (entries_more _ _ _ _ _ (optional_array_of malformed_data_item
+    (indexed_data t) 8 t.malformed_message_data refl) entries_end)))))))) in
     omega (arith, lengths)
 
 -- a block with some tables
@@ -63,14 +65,17 @@ block_within t b =
     let lengths =
     entries_more _ _ _ _ _ (entry_there 0 29 (block_preamble_item b.earliest) refl (preamble_short b.earliest))
     (entries_more _ _ _ _ _ (entry_short statistics_item 1 61 b.stats refl statistics_short)
-    (entries_more _ _ _ _ _ (optional_map_short 2 _ (table_entries (indexed_in t b)) refl (omega arith) (tables_short t b))
+    (entries_more _ _ _ _ _ (optional_map_short 2 _ (table_entries (indexed_in t b)) refl (omega arith)
+    (tables_short t b))
     (entries_more _ _ _ _ _ (optional_array_of query_response_item (indexed_item t) 3 b.items refl)
-    (entries_more _ _ _ _ _ (optional_array_of malformed_item (indexed_malformed t) 5 b.malformed refl) entries_end)))) in
+    (entries_more _ _ _ _ _ (optional_array_of malformed_item
+    (indexed_malformed t) 5 b.malformed refl) entries_end)))) in
     let whole = map_short _ _ (omega arith) lengths in omega (arith, whole)
 
 -- the values of a block are those of its items and of its malformed messages
 visits_of_block : (f : Visited → ℕ) (b : KeptBlock) →
-    total f (visited b) ≡ total (λ i. total f (visited_item i)) b.items + total (λ m. total f (visited_malformed m)) b.malformed
+    total f (visited b) ≡ total (λ i. total f (visited_item i)) b.items
+    + total (λ m. total f (visited_malformed m)) b.malformed
 unfolding visited
 visits_of_block f b =
     omega (
@@ -94,17 +99,22 @@ costs_in_turn own f uses (x ∷ xs) =
 
 -- what items cost
 items_in_turn : (t : KeptTables) (items : List KeptItem) → sum_by (item_cost t) items ≡
-    total (λ i. size (query_response_item (indexed_item t i))) items + total (λ i. total (value_size t) (visited_item i)) items
-items_in_turn t items = costs_in_turn (λ i. size (query_response_item (indexed_item t i))) (value_size t) visited_item items
+    total (λ i. size (query_response_item (indexed_item t i))) items
+    + total (λ i. total (value_size t) (visited_item i)) items
+items_in_turn t items = costs_in_turn (λ i. size (query_response_item (indexed_item t i)))
+    (value_size t) visited_item items
 
 -- what malformed messages cost
 malformed_in_turn : (t : KeptTables) (ms : List KeptMalformed) → sum_by (malformed_cost t) ms ≡
-    total (λ m. size (malformed_item (indexed_malformed t m))) ms + total (λ m. total (value_size t) (visited_malformed m)) ms
-malformed_in_turn t ms = costs_in_turn (λ m. size (malformed_item (indexed_malformed t m))) (value_size t) visited_malformed ms
+    total (λ m. size (malformed_item (indexed_malformed t m))) ms
+    + total (λ m. total (value_size t) (visited_malformed m)) ms
+malformed_in_turn t ms = costs_in_turn (λ m. size (malformed_item (indexed_malformed t m)))
+    (value_size t) visited_malformed ms
 
 -- a kept block with tables that take no more than what it uses
 block_costs : (t : KeptTables) (b : KeptBlock) → tables_size t t ≤ total (value_size t) (visited b) →
-    length (block_spelling (indexed_in t b)) ≤ 205 + (sum_by (item_cost t) b.items + sum_by (malformed_cost t) b.malformed)
+    length (block_spelling (indexed_in t b)) ≤ 205
+    + (sum_by (item_cost t) b.items + sum_by (malformed_cost t) b.malformed)
 block_costs t b within =
     omega (
       arith,

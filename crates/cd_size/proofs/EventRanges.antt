@@ -87,7 +87,8 @@ malformed_in_range : (d : Datagram) (from_client : Bool) â†’ DatagramInRange d â
     (LEAST_WEIGHT + length d.payload) (Payload d.payload))
 malformed_in_range d from_client range =
     let fit = ends_in_range from_client d range in
-    made_in_range d (ends_of from_client d) Malformed false (bare_ids (ends_of from_client d)) _ (Payload d.payload) range fit
+    made_in_range d (ends_of from_client d) Malformed false (bare_ids (ends_of from_client d)) _
+    (Payload d.payload) range fit
     (transport_is_udp (ends_of from_client d) 0 0 None fit) tt tt (omega arith)
 
 -- a valid message is of a query where QR is 0, and else of a response

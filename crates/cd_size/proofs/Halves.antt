@@ -37,7 +37,8 @@ opt_share (Some r) = 3 + length r.rdata
 -- an OPT record that is found, and the others
 found_apart : (b : Bool) (r : Rr) (o : Option Rr) (others : List Rr) (whole : ℕ) →
     opt_share o + total record_weight others ≤ whole → total record_weight others ≤ whole →
-    opt_share (if b then Some r else o) + total record_weight (if not b then r ∷ others else others) ≤ record_weight r + whole
+    opt_share (if b then Some r else o) + total record_weight (if not b then r ∷ others else others) ≤
+    record_weight r + whole
 found_apart true r o others whole found kept = omega arith
 found_apart false r o others whole found kept = omega arith
 
@@ -45,7 +46,8 @@ found_apart false r o others whole found kept = omega arith
 opt_apart : (rs : List Rr) → opt_share (find is_opt rs) + total record_weight (without_opt rs) ≤ total record_weight rs
 opt_apart [] = omega arith
 opt_apart (r ∷ rs) =
-    found_apart (is_opt r) r (find is_opt rs) (without_opt rs) (total record_weight rs) (opt_apart rs) (total_filter record_weight (λ x. not (is_opt x)) rs)
+    found_apart (is_opt r) r (find is_opt rs) (without_opt rs) (total record_weight rs) (opt_apart rs)
+    (total_filter record_weight (λ x. not (is_opt x)) rs)
 
 -- the share of a message's first question
 abbrev pub first_of : Option dns.Message → ℕ
@@ -67,7 +69,8 @@ authority_cost : (t : KeptTables) (p : Params) (bit : ℕ) (m : dns.Message) →
     records_cost t (kept_records p bit m.authority) ≤ 15 + total record_weight m.authority
 authority_cost t p bit m fit =
     let valid = fit.valid.authority in
-    section_cost t p bit m.authority valid.few_records (small_records m.authority valid.records_are_valid fit.range.authority)
+    section_cost t p bit m.authority valid.few_records
+    (small_records m.authority valid.records_are_valid fit.range.authority)
 
 -- the additional records of a message are small
 additional_small : (m : dns.Message) → MessageIsFit m → AllByRecursion RrIsSmall m.additional
@@ -86,7 +89,8 @@ without_opt_cost t p bit m fit =
     let all = fit.valid.additional.few_records in
     let few : length (without_opt m.additional) ≤ 65535 =
     omega (arith, all, length_filter_few (λ x. not (is_opt x)) m.additional) in
-    section_cost t p bit (without_opt m.additional) few (all_filter RrIsSmall (λ x. not (is_opt x)) m.additional (additional_small m fit))
+    section_cost t p bit (without_opt m.additional) few
+    (all_filter RrIsSmall (λ x. not (is_opt x)) m.additional (additional_small m fit))
 
 -- the questions of a message after the first
 questions_after_first : (t : KeptTables) (p : Params) (m : dns.Message) → MessageIsFit m →
@@ -109,7 +113,8 @@ weight_in_turn m =
 
 -- a query's message
 query_message_cost : (t : KeptTables) (p : Params) (m : dns.Message) → MessageIsFit m →
-    lists_cost t (query_lists p m) + (first_share m.questions + opt_share (find is_opt m.additional)) + 195 ≤ weight_of m
+    lists_cost t (query_lists p m) + (first_share m.questions + opt_share (find is_opt m.additional)) + 195 ≤
+    weight_of m
 query_message_cost t p m fit =
     omega (
       arith,

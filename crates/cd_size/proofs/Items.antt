@@ -28,14 +28,16 @@ unfolding indexed_item
 item_in_range t p earliest r fit = record {
   client_port = kept_word _ _ (Some (main_event r).client_port) fit.main.client_port;
   transaction_id = kept_word _ _ _ (word_of (λ m. m.id) (main_message r) (λ m f. f.range.id) fit.main_fits);
-  client_hoplimit = kept_byte _ _ _ (mapped EventInRange (λ n. n < 0x100) (λ e. e.hop) (query_of r) (λ e f. f.hop) fit.query_event);
+  client_hoplimit = kept_byte _ _ _
+      (mapped EventInRange (λ n. n < 0x100) (λ e. e.hop) (query_of r) (λ e f. f.hop) fit.query_event);
 }
 
 -- an item, and what it uses
 item_in_turn : (t : KeptTables) (i : KeptItem) → ItemInRange (indexed_item t i) → item_cost t i ≤
     82 + (cost t (where_present visited_address i.client_address)
     + (cost t (where_present visited_signature i.signature)
-    + (cost t (where_present visited_bytes i.query_name) + (lists_cost t i.query_extended + lists_cost t i.response_extended))))
+    + (cost t (where_present visited_bytes i.query_name)
+    + (lists_cost t i.query_extended + lists_cost t i.response_extended))))
 unfolding indexed_item visited_item
 item_in_turn t i range =
     omega (
@@ -62,7 +64,8 @@ lead_of_record t r fit =
     omega (
       arith,
       lead_cost t (lead_question r) fits,
-      either_share (option_and_then first_question (query_message r)) (option_and_then first_question (response_message r)),
+      either_share (option_and_then first_question (query_message r))
+          (option_and_then first_question (response_message r)),
       first_of_message (query_message r),
       first_of_message (response_message r),
     )
@@ -84,19 +87,22 @@ client_kept p earliest r fit =
 -- the signature of a record
 signature_of_record : (t : KeptTables) (p : Params) (r : RecordParts) → IsFit r →
     cost t (where_present visited_signature (Some (kept_signature p r))) ≤
-    96 + (cost t (where_present visited_classtype (option_map (λ x. (x.rtype, x.rclass)) (lead_question r))) + opt_of (query_message r))
+    96 + (cost t (where_present visited_classtype (option_map (λ x. (x.rtype, x.rclass)) (lead_question r)))
+    + opt_of (query_message r))
 signature_of_record t p r fit =
     omega (
       arith,
       signature_cost t (kept_signature p r) (signature_in_range t p r fit) (server_kept p r fit),
-      kept_cost t visited_classtype p.hints.sig hint.SIG_CLASSTYPE (option_map (λ x. (x.rtype, x.rclass)) (lead_question r)),
+      kept_cost t visited_classtype p.hints.sig hint.SIG_CLASSTYPE
+          (option_map (λ x. (x.rtype, x.rclass)) (lead_question r)),
       kept_cost t visited_bytes p.hints.sig hint.SIG_OPT_RDATA (option_map (λ x. x.rdata) (query_opt r)),
       opt_cost t (query_message r) fit.query,
     )
 
 -- the item of a record
 pub item_of_record : (t : KeptTables) (p : Params) (earliest : Stamp) (r : RecordParts) → IsFit r →
-    item_cost t (kept_item p earliest r) ≤ 195 + (query_cost t p (query_message r) + response_cost t p (response_message r))
+    item_cost t (kept_item p earliest r) ≤ 195
+    + (query_cost t p (query_message r) + response_cost t p (response_message r))
 item_of_record t p earliest r fit =
     omega (
       arith,

@@ -91,7 +91,8 @@ kept_questions_cost t (q ∷ qs) few all =
     let uses = total_flat_map (value_size t) visited_question (map kept_question (q ∷ qs)) in
     let each = total_map (λ k. cost t (visited_question k)) kept_question (q ∷ qs) in
     let weights =
-    each_with_index QuestionInRange (λ x. cost t (visited_question (kept_question x))) question_weight (q ∷ qs) (question_cost t) all in
+    each_with_index QuestionInRange (λ x. cost t (visited_question (kept_question x))) question_weight (q ∷ qs)
+    (question_cost t) all in
     let few_kept : length (map kept_question (q ∷ qs)) < 0x1_0000 = rw (length-map (q ∷ qs) kept_question) few in
     let indexes = indexes_short (question_index t) (map kept_question (q ∷ qs)) few_kept in
     omega (arith, uses, each, weights, indexes, length-map (q ∷ qs) kept_question)
@@ -106,7 +107,8 @@ kept_records_cost t hints (r ∷ rs) few all =
     let uses = total_flat_map (value_size t) visited_record (map (kept_rr hints) (r ∷ rs)) in
     let each = total_map (λ k. cost t (visited_record k)) (kept_rr hints) (r ∷ rs) in
     let weights =
-    each_with_index RrIsSmall (λ x. cost t (visited_record (kept_rr hints x))) record_weight (r ∷ rs) (record_cost t hints) all in
+    each_with_index RrIsSmall (λ x. cost t (visited_record (kept_rr hints x))) record_weight (r ∷ rs)
+    (record_cost t hints) all in
     let few_kept : length (map (kept_rr hints) (r ∷ rs)) < 0x1_0000 = rw (length-map (r ∷ rs) (kept_rr hints)) few in
     let indexes = indexes_short (record_index t) (map (kept_rr hints) (r ∷ rs)) few_kept in
     omega (arith, uses, each, weights, indexes, length-map (r ∷ rs) (kept_rr hints))
@@ -131,7 +133,8 @@ section_cost t p bit rs few all =
     let few_listed : length (filter (is_listed_record p.rr_types) rs) < 0x1_0000 =
     omega (arith, few, length_filter_few (is_listed_record p.rr_types) rs) in
     let whole =
-    records_or_not t p.hints (is_hinted p.hints.qr bit) (filter (is_listed_record p.rr_types) rs) few_listed (all_filter RrIsSmall (is_listed_record p.rr_types) rs all) in
+    records_or_not t p.hints (is_hinted p.hints.qr bit) (filter (is_listed_record p.rr_types) rs) few_listed
+    (all_filter RrIsSmall (is_listed_record p.rr_types) rs all) in
     omega (arith, whole, total_filter record_weight (is_listed_record p.rr_types) rs)
 
 -- a list of questions that is kept or not
@@ -173,6 +176,7 @@ pub lists_in_turn : (t : KeptTables) (l : KeptLists) → lists_cost t l ≡
     questions_cost t l.question + records_cost t l.answer + records_cost t l.authority + records_cost t l.additional
 unfolding indexed_lists visited_lists
 lists_in_turn t l =
-    let uses = total_four (value_size t) (visited_questions l.question) (visited_records l.answer) (visited_records l.authority)
+    let uses = total_four (value_size t) (visited_questions l.question) (visited_records l.answer)
+    (visited_records l.authority)
     (visited_records l.additional) in
     omega (arith, uses)

@@ -118,7 +118,8 @@ malformed_record_cost t p earliest e range =
       arith,
       malformed_short (indexed_malformed t (kept_malformed p earliest (malformed e))) ranges,
       sum_is_total (value_size t) (visited_malformed (kept_malformed p earliest (malformed e))),
-      total_append (value_size t) (where_present visited_address (Some (client_address p.prefixes e.client))) (where_present visited_data (Some (kept_data p e))),
+      total_append (value_size t) (where_present visited_address (Some (client_address p.prefixes e.client)))
+          (where_present visited_data (Some (kept_data p e))),
       address_cost t (Some (client_address p.prefixes e.client)) client,
       data_cost t p e range,
       payload_weighs e.body,
@@ -169,7 +170,8 @@ run_total t p earliest (discarded e ∷ run) all =
 
 -- malformed messages that are kept or not
 malformed_or_not : (t : KeptTables) (p : Params) (earliest : Stamp) (b : Bool) (rs : List RecordParts) →
-    total (malformed_cost t) (if b then map (kept_malformed p earliest) rs else []) ≤ total (λ r. malformed_cost t (kept_malformed p earliest r)) rs
+    total (malformed_cost t) (if b then map (kept_malformed p earliest) rs else []) ≤
+    total (λ r. malformed_cost t (kept_malformed p earliest r)) rs
 malformed_or_not t p earliest true rs = omega (arith, total_map (malformed_cost t) (kept_malformed p earliest) rs)
 malformed_or_not t p earliest false rs = omega arith
 

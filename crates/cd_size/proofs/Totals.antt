@@ -21,7 +21,8 @@ total_append f [] ys = omega arith
 total_append f (x ∷ xs) ys = omega (arith, total_append f xs ys)
 
 -- three lists in turn
-pub total_three : {X : Type 0} (f : X → ℕ) (xs ys zs : List X) → total f (xs ++ ys ++ zs) ≡ total f xs + total f ys + total f zs
+pub total_three : {X : Type 0} (f : X → ℕ) (xs ys zs : List X) → total f (xs ++ ys ++ zs) ≡ total f xs + total f ys
+    + total f zs
 total_three f xs ys zs = omega (arith, total_append f (xs ++ ys) zs, total_append f xs ys)
 
 -- four lists in turn
