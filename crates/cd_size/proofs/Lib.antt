@@ -11,3 +11,4 @@ mod Items
 mod Runs
 mod MessageRanges
 mod EventRanges
+mod DatagramRanges

@@ -13,7 +13,7 @@ use Rattle.cd_message.proofs.MessagesByRules.{spelled_by_rules}
 use Rattle.cd_size.specs.Ranges.{QuestionInRange, RrInRange, MessageInRange}
 
 -- a number of two bytes
-word_short : (at : ℕ) (p : List ℕ) → AreBytes p → be16 at p < 0x1_0000
+pub word_short : (at : ℕ) (p : List ℕ) → AreBytes p → be16 at p < 0x1_0000
 unfolding be16
 word_short at p bytes = omega (arith, bytes at, bytes (at + 1))
 

@@ -1,5 +1,5 @@
 -- Laws of the sizes of blocks.
-use Rattle.std.specs.Prelude.{◌+◌, ◌≤◌, List, length}
+use Rattle.std.specs.Prelude.{◌≡◌, ℕ, ◌+◌, ◌≤◌, List, length}
 use Rattle.std.specs.List.{All, sum_by}
 use Rattle.cd_block.specs.declared.kept.KeptBlock.{KeptBlock}
 use Rattle.cd_block.specs.declared.params.Params.{Params}
@@ -9,7 +9,9 @@ use Rattle.cd_file.specs.Files.{block_spelling}
 use Rattle.cd_hints.specs.Records.{RecordParts}
 use Rattle.cd_ident.specs.declared.event_rules.EventRules.{EventRules}
 use Rattle.cd_ident.specs.Events.{event_parts}
-use Rattle.cd_packet.specs.Layers.{Datagram}
+use Rattle.cd_packet.specs.Layers.{Datagram, datagram, layer_of}
+use Rattle.cd_packet.specs.declared.packet.Packet.{Packet}
+use Rattle.cd_message.specs.MessageLaws.{AreBytes}
 use Rattle.cd_record.specs.Blocks.{kept_block}
 use Rattle.cd_record.specs.Runs.{run_weight}
 use Rattle.cd_size.specs.Ranges.{RecordInRange, DatagramInRange, EventInRange}
@@ -29,3 +31,8 @@ BlocksAreLight = (p : Params) (run : List RecordParts) → All RecordInRange run
 -- the event of a datagram is in range
 abbrev pub EventsAreInRange : Type 0
 EventsAreInRange = (rules : EventRules) (d : Datagram) → DatagramInRange d → EventInRange (event_parts rules d)
+
+-- the datagram that a packet of bytes holds is in range
+abbrev pub DatagramsAreInRange : Type 0
+DatagramsAreInRange = (port : ℕ) (p : Packet) (d : Datagram) → AreBytes p.bytes → layer_of port p ≡ datagram d →
+    DatagramInRange d

@@ -1,6 +1,6 @@
 //! Laws of the sizes of blocks, each the contract of a function that does nothing.
 
-ghost use Rattle.cd_size.specs.Laws.{KeptBlocksAreShort, BlocksAreLight, EventsAreInRange};
+ghost use Rattle.cd_size.specs.Laws.{KeptBlocksAreShort, BlocksAreLight, EventsAreInRange, DatagramsAreInRange};
 
 /// The spelling of a kept block with its tables takes at most 205 bytes and the costs of its items and of its malformed
 /// messages.
@@ -18,4 +18,9 @@ pub fn blocks_are_light()
 /// The event of a datagram is in range, where the numbers of the datagram are in the ranges of their types.
 pub fn events_are_in_range()
     ensures { EventsAreInRange }
+{}
+
+/// The datagram that a packet holds is in range, where the captured bytes of the packet are bytes.
+pub fn datagrams_are_in_range()
+    ensures { DatagramsAreInRange }
 {}
