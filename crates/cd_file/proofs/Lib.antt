@@ -1,4 +1,5 @@
 pub mod Begun
 pub mod Maps
+pub mod MapSizes
 pub mod Numbers
 pub mod Sizes

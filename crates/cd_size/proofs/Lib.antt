@@ -1,0 +1,14 @@
+mod Totals
+mod Arrays
+mod Visits
+mod Blocks
+mod Fits
+mod SignatureRanges
+mod Parts
+mod Lists
+mod Halves
+mod Items
+mod Runs
+mod MessageRanges
+mod EventRanges
+mod DatagramRanges
