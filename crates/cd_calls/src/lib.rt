@@ -13,6 +13,8 @@ mod captures;
 #[cfg(test)]
 mod cbor;
 #[cfg(test)]
+mod driving;
+#[cfg(test)]
 mod lists;
 #[cfg(test)]
 mod messages;
