@@ -1,0 +1,13 @@
+pub mod Events
+pub mod Refusals
+pub mod Records
+pub mod Compactions
+pub mod Counting
+pub mod Endings
+pub mod Compacting
+pub mod Laws
+pub mod Behaving
+pub mod Filing
+pub mod Blocks
+pub mod Standing
+pub mod Lawful

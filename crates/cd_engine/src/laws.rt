@@ -1,0 +1,31 @@
+//! Laws of the file of a capture, and of the weight of its events: contracts of functions that do nothing.
+
+ghost use Rattle.cd_engine.specs.Laws.{EachCaptureHasOneFile, EachCaptureHasOneClosedPart, EachCaptureHasOneCounts};
+ghost use Rattle.cd_engine.specs.Laws.{EventsAreLinear, EventsAreLight};
+
+/// A law: each capture has exactly one file, under each valid settings. It does nothing.
+pub fn each_capture_has_one_file()
+    ensures { EachCaptureHasOneFile }
+{}
+
+/// A law: each capture has exactly one closed part, under each valid settings. It is a front of the file, however the
+/// bytes go on. It does nothing.
+pub fn each_capture_has_one_closed_part()
+    ensures { EachCaptureHasOneClosedPart }
+{}
+
+/// A law: each capture has exactly one set of counts, under each valid settings. It does nothing.
+pub fn each_capture_has_one_counts()
+    ensures { EachCaptureHasOneCounts }
+{}
+
+/// A law: sixteen times what the events of a capture weigh together is at most 829 times its length in bytes. It does
+/// nothing.
+pub fn weights_of_events_are_linear()
+    ensures { EventsAreLinear }
+{}
+
+/// A law: the events of a capture of at most 2^48 bytes weigh less than 2^63 together. It does nothing.
+pub fn events_are_light()
+    ensures { EventsAreLight }
+{}

@@ -1,0 +1,31 @@
+//! From a capture to its C-DNS file (RFC 8618): `compact_plain`.
+//!
+//! - A *capture* comes from a source in chunks. Each packet that holds a datagram from or to the port of DNS is an
+//!   *event*.
+//! - Events are paired by the window of `cd_window`. A *record* is a query with its response, or an event that stands
+//!   alone; records come in the order of their first events.
+//! - Records are cut into *runs*, and each run is a *block*. A run is *closed* once the record after it is released.
+//! - The *closed part* of a file is its head and its closed blocks. It is written before the source is asked again.
+//!
+//! The way of the data: bytes, packets and their events (`packets`, `event_making`), their records (`blocks`), runs and
+//! blocks (`filing`), the machine of all of them (`compactor`), driven from a source to a sink (`compaction`).
+//!
+//! Example: a query and its response 20 ms later are one record. Its run is closed at the end of the capture, and the
+//! file holds one block with one item.
+#![tactic(auto)]
+
+mod blocks;
+mod compaction;
+mod compactor;
+mod counts;
+mod ended;
+mod event_making;
+mod filing;
+pub mod laws;
+mod refusal;
+mod settings_copy;
+
+pub use compaction::compact_plain;
+pub use counts::Counts;
+pub use ended::Ended;
+pub use refusal::Refusal;
