@@ -1,0 +1,4 @@
+pub mod Weights
+pub mod OneCutting
+pub mod LightRecords
+pub mod OneFile

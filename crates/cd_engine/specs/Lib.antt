@@ -10,4 +10,9 @@ pub mod Behaving
 pub mod Filing
 pub mod Blocks
 pub mod Standing
+pub mod BeforePackets
+pub mod CapturesGo
+pub mod HeavyEvents
+pub mod RecordsGo
+pub mod CutsGo
 pub mod Lawful

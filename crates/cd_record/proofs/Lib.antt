@@ -1,7 +1,7 @@
 pub mod Tallying
-mod RunLists
-mod Fronts
-mod OneCut
-mod OneRecord
+pub mod RunLists
+pub mod Fronts
+pub mod OneCut
+pub mod OneRecord
 pub mod Histories
 pub mod Keeping

@@ -1,0 +1,5 @@
+use Rattle.cd_engine.proofs.OneFile.{each_has_one_file}
+use Rattle.cd_engine.proofs.laws.each_capture_has_one_file.Goals as goal
+
+pub returns : goal.returns
+returns c = each_has_one_file
