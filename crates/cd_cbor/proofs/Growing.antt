@@ -39,7 +39,7 @@ goes_refused {A} bytes at reason apart = record {
 
 -- faults of readings of two kinds are equal alike
 fault_same : {A B : Type 0} (e f : CborFault) → ◌≡◌ {A = Result A CborFault} (Err e) (Err f) → ◌≡◌ {A = Result B CborFault} (Err e) (Err f)
-fault_same {A} {B} e f h = let same : e ≡ f = cc in ap (λ x. Err {A = B} x) same
+fault_same {A} {B} e f h = let same : e ≡ f = cc in ap {B = Result B CborFault} (λ x. Err x) same
 
 -- one reading and then another
 goes_bind : {A B : Type 0} (bytes : List ℕ) (now later : Result A CborFault) (f g : A → Result B CborFault) → Goes bytes now later →
@@ -80,7 +80,7 @@ unfolding byte_at
 byte_goes bytes more at =
     elim (cases_lt at (length bytes)) [
       | inl within ↦ rw (lt-ltb at (length bytes) within, lt-ltb at (length (bytes ++ more)) (omega (arith, length-append bytes more)))
-          (goes_ok bytes (slice_index bytes at) (slice_index (bytes ++ more) at) (get_or_append_left bytes more at 0 within))
+          (goes_ok bytes (slice_index bytes at) (slice_index (bytes ++ more) at) (get_or_append_left bytes more 0 at within))
       | inr past ↦ rw (le-ltb at (length bytes) past) (record { stays = λ never. absurd (never (length bytes) refl); ends = λ k h. cc })
     ]
 
@@ -160,7 +160,8 @@ unfolding chunked_string_at
 chunked_string_goes bytes more is_text at = goes_bind bytes _ _ _ _ (chunks_goes bytes more is_text (at + 1)) (λ content e. goes_ok bytes _ _ refl)
 
 -- the bytes between two offsets stay
-other_stays : (bytes more : List ℕ) (at next : ℕ) → at ≤ next → next ≤ length bytes → (other (piece at (next - at) (bytes ++ more)), next) ≡ (other (piece at (next - at) bytes), next)
+other_stays : (bytes more : List ℕ) (at next : ℕ) → at ≤ next → next ≤ length bytes →
+    ◌≡◌ {A = Item × ℕ} (other (piece at (next - at) (bytes ++ more)), next) (other (piece at (next - at) bytes), next)
 other_stays bytes more at next order within = ap (λ t. (other t, next)) (piece_stays bytes more at (next - at) (omega arith))
 
 simple_goes : (bytes more : List ℕ) (info at : ℕ) → Goes bytes (simple_at info at bytes) (simple_at info at (bytes ++ more))
