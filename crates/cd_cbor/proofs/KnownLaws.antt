@@ -16,17 +16,19 @@ use Rattle.cd_cbor.proofs.Growing.{Goes, item_goes, item_within}
 use Rattle.cd_cbor.proofs.Written.{item_written}
 
 pub spelled_is_read : SpelledIsRead
+unfolding Cbor
 spelled_is_read item bytes more h =
     let sum : 0 + length bytes ≡ length bytes = omega arith in
     item_reads most_depth (bytes ++ more) why.Break 0 item bytes more refl h ∙ ap (λ n. Ok (item, n)) sum
 
 pub read_is_spelled : ReadIsSpelled
+unfolding Cbor
 read_is_spelled bytes item size all h =
     let st : Stands (Spells most_depth) bytes 0 item size = item_sound most_depth bytes all why.Break 0 item size h in
     let within = item_within most_depth bytes all why.Break 0 item size h in
     let long : size ≡ length st.s = omega (arith, st.ends) in
     let front : take size bytes ≡ st.s = ap (λ n. take n bytes) long ∙ ap (take (length st.s)) st.is ∙ take-append_seam st.s (drop size bytes) in
-    (within.1, subst (Cbor item) (sym front) st.has)
+    (within.1, subst (Spells most_depth item) (sym front) st.has)
 
 none_left : (xs : List ℕ) → length xs ≡ 0 → xs ≡ []
 none_left [] e = refl
@@ -52,4 +54,5 @@ readings_stay bytes all =
     }
 
 pub written_is_spelling : WrittenIsSpelling
+unfolding Cbor
 written_is_spelling item bytes few h = item_written most_depth item bytes few h

@@ -103,5 +103,5 @@ Spells zero item bytes = SpellsPlain item bytes
 Spells (suc depth) item bytes = SpellsPlain item bytes ⊎ SpellsHolder (Spells depth) item bytes
 
 -- these bytes are a well-formed spelling of this item with no fault
-abbrev pub Cbor : Item → List ℕ → Type 0
+unfoldable pub Cbor : Item → List ℕ → Type 0
 Cbor item bytes = Spells most_depth item bytes

@@ -127,6 +127,7 @@ fn entry_at(
 
 // The array of definite length with its head at an offset.
 #[cycle(item)]
+#[tactic(auto, unfolding(crate::specs::Reading::array_at))]
 fn array_at(
     alloc: Global,
     bytes: &[u8],
@@ -159,6 +160,7 @@ fn array_at(
 
 // The map of definite length with its head at an offset.
 #[cycle(item)]
+#[tactic(auto, unfolding(crate::specs::Reading::map_at))]
 fn map_at(
     alloc: Global,
     bytes: &[u8],
@@ -215,6 +217,7 @@ fn tagged_at(
 
 // The array up to a break with its head at an offset.
 #[cycle(item)]
+#[tactic(auto, unfolding(crate::specs::Reading::open_array_at))]
 fn open_array_at(
     alloc: Global,
     bytes: &[u8],
@@ -232,7 +235,10 @@ fn open_array_at(
     let mut items = Vec::new(alloc);
     let mut here = at + 1;
     'items: for _ in 0..bytes.len() {
-        let first = byte_at(bytes, here)?;
+        let first = match byte_at(bytes, here) {
+            Ok(first) => first,
+            Err(fault) => return Err(fault),
+        };
         if first == BREAK {
             return Ok((Item::Array(List::from_vec(items)), here + 1));
         }
@@ -249,6 +255,7 @@ fn open_array_at(
 
 // The map up to a break with its head at an offset.
 #[cycle(item)]
+#[tactic(auto, unfolding(crate::specs::Reading::open_map_at))]
 fn open_map_at(
     alloc: Global,
     bytes: &[u8],
@@ -266,7 +273,10 @@ fn open_map_at(
     let mut pairs = Vec::new(alloc);
     let mut here = at + 1;
     'pairs: for _ in 0..bytes.len() {
-        let first = byte_at(bytes, here)?;
+        let first = match byte_at(bytes, here) {
+            Ok(first) => first,
+            Err(fault) => return Err(fault),
+        };
         if first == BREAK {
             return Ok((Item::Map(List::from_vec(pairs)), here + 1));
         }

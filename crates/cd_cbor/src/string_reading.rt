@@ -125,7 +125,10 @@ pub(crate) fn chunks_at(
     let mut content = Vec::new(alloc);
     let mut here = at;
     'chunks: for _ in 0..bytes.len() {
-        let first = byte_at(bytes, here)?;
+        let first = match byte_at(bytes, here) {
+            Ok(first) => first,
+            Err(fault) => return Err(fault),
+        };
         if first == BREAK {
             return Ok((Blob::from_vec(content), here + 1));
         }
