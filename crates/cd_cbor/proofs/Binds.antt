@@ -1,5 +1,5 @@
 -- What stands after a reading, and what it tells of those before.
-use Rattle.std.proofs.Common.{◌≡◌, ℕ, Bool, true, false, cond, Result, Ok, Err, refl, sym, ◌∙◌}
+use Rattle.std.proofs.Common.{◌≡◌, Bool, true, false, cond, Result, Ok, Err, refl}
 use Rattle.cd_cbor.specs.declared.fault.CborFault.{CborFault}
 use Rattle.cd_cbor.specs.declared.fault.CborFault.TheVariants as fault
 use Rattle.cd_cbor.specs.Readings.{◌>>=◌, GivesFault}

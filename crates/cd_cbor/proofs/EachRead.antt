@@ -1,10 +1,10 @@
 -- Values that are spelled one after the other are read.
-use Rattle.std.proofs.Common.{◌≡◌, ℕ, zero, suc, ◌+◌, ◌-◌, ◌<◌, ◌≤◌, List, [], ◌∷◌, ◌++◌, length, drop, Result, Ok, refl, ap, sym, ◌∙◌, arith, append_assoc, length-append}
+use Rattle.std.proofs.Common.{◌≡◌, ℕ, zero, suc, ◌+◌, ◌<◌, ◌≤◌, List, [], ◌∷◌, ◌++◌, length, drop, Result, Ok, ap, ◌∙◌, arith, append_assoc, length-append}
 use Rattle.std.proofs.lemmas.Bool.{ne_eqb}
 use Rattle.cd_cbor.specs.Spells.{Each}
 use Rattle.cd_cbor.specs.Readings.{Reading, byte_at, times, until_break}
 use Rattle.cd_cbor.specs.declared.fault.CborFault.{CborFault}
-use Rattle.cd_cbor.proofs.Offsets.{drop_on, lies_within, first_is}
+use Rattle.cd_cbor.proofs.Offsets.{drop_on, first_is}
 use Rattle.cd_cbor.proofs.HeadsRead.{Begins}
 
 -- a reader reads what is spelled so, wherever it stands

@@ -1,6 +1,6 @@
 -- What is read stays as the bytes go on, but for an end.
-use Rattle.std.proofs.Common.{◌≡◌, ℕ, zero, suc, ◌+◌, ◌-◌, ◌*◌, ◌/◌, ◌%◌, ◌<◌, ◌≤◌, Bool, true, false, cond, List, [], ◌∷◌, ◌++◌, length, take, drop, get_or, Result, Ok, Err, inl, inr, refl, ap, sym, subst, ◌∙◌, arith, append_assoc, length-append}
-use Rattle.std.specs.Prelude.{nat_lt, nat_eq, slice_index, ◌&&◌, ◌⊎◌, All}
+use Rattle.std.proofs.Common.{◌≡◌, ℕ, zero, suc, ◌+◌, ◌-◌, ◌/◌, ◌%◌, ◌<◌, ◌≤◌, Bool, true, false, cond, List, ◌∷◌, ◌++◌, length, take, drop, Result, Ok, Err, inl, inr, refl, ap, ◌∙◌, arith, length-append}
+use Rattle.std.specs.Prelude.{nat_lt, nat_eq, slice_index, ◌&&◌, All}
 use Rattle.std.proofs.lemmas.Bool.{cases_lt, cases_eq, lt-ltb, le-ltb, ltb-false, eq-eqb, ne_eqb}
 use Rattle.std.proofs.lemmas.List.{take-append-le, drop-append-le, length-drop, get_or_append_left}
 use Rattle.cd_cbor.specs.Heads.{major_type, argument_size, argument_of}
@@ -20,7 +20,6 @@ use Rattle.cd_cbor.proofs.HeadsRead.{Begins}
 use Rattle.cd_cbor.proofs.ItemsRead.{item_begins}
 use Rattle.cd_cbor.proofs.Stands.{Stands}
 use Rattle.cd_cbor.proofs.ItemsStand.{item_sound}
-use Rattle.cd_cbor.proofs.Depths.{item_at_is}
 
 -- what is read now is read later too, unless the bytes end, and they end at their end
 pub record Goes {A : Type 0} (bytes : List ℕ) (now later : Result A CborFault) : Type 0 where

@@ -1,9 +1,8 @@
 -- A head that is spelled is read.
-use Rattle.std.proofs.Common.{◌≡◌, ℕ, zero, suc, ◌+◌, ◌-◌, ◌*◌, ◌/◌, ◌%◌, ◌<◌, ◌≤◌, List, [], ◌∷◌, ◌++◌, length, take, drop, Ok, refl, ap, sym, ◌∙◌, arith, append_assoc}
-use Rattle.std.specs.Prelude.{nat_lt}
+use Rattle.std.proofs.Common.{◌≡◌, ℕ, ◌+◌, ◌*◌, ◌/◌, ◌%◌, ◌<◌, List, [], ◌∷◌, ◌++◌, length, take, drop, Ok, refl, ap, sym, ◌∙◌, arith}
 use Rattle.std.proofs.lemmas.Bool.{lt-ltb, le-ltb}
 use Rattle.cd_cbor.specs.MajorTypes.{major_number}
-use Rattle.cd_cbor.specs.Heads.{IsHead, major_type, argument_size, argument_of}
+use Rattle.cd_cbor.specs.Heads.{IsHead, major_type, argument_size}
 use Rattle.cd_cbor.specs.Spells.{indefinite}
 use Rattle.cd_cbor.specs.Readings.{byte_at, piece}
 use Rattle.cd_cbor.specs.Reading.{ItemReader, argument_at, definite_at, indefinite_at, item_by}

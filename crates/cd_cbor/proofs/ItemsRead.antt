@@ -1,20 +1,20 @@
 -- An item that is spelled is read.
-use Rattle.std.proofs.Common.{◌≡◌, ℕ, zero, suc, ◌+◌, ◌-◌, ◌<◌, ◌≤◌, Bool, true, false, List, [], ◌∷◌, ◌++◌, length, take, drop, Ok, inl, inr, refl, ap, sym, subst, ◌∙◌, arith, append_assoc, length-append}
-use Rattle.std.specs.Prelude.{nat_lt, nat_eq, ◌&&◌, ◌⊎◌}
-use Rattle.std.proofs.lemmas.Bool.{cases_eq, le-ltb, lt-ltb, eq-eqb, ne_eqb}
+use Rattle.std.proofs.Common.{◌≡◌, ℕ, zero, suc, ◌+◌, ◌-◌, ◌<◌, ◌≤◌, Bool, true, false, List, [], ◌∷◌, ◌++◌, length, drop, Ok, inl, inr, refl, ap, sym, subst, ◌∙◌, arith, append_assoc, length-append}
+use Rattle.std.specs.Prelude.{nat_lt, nat_eq, ◌&&◌}
+use Rattle.std.proofs.lemmas.Bool.{cases_eq, le-ltb, eq-eqb, ne_eqb}
 use Rattle.cd_cbor.specs.Heads.{IsHead, argument_size}
 use Rattle.cd_cbor.specs.MajorTypes.{major_number}
 use Rattle.cd_cbor.specs.Items.{unsigned, negative, array, entries}
-use Rattle.cd_cbor.specs.Spells.{other, Each, SpellsPair, SpellsString, SpellsChunks, SpellsPlain, is_unsigned, is_negative, is_string, is_chunked, is_simple, SpellsHolder, is_array, is_open_array, is_map, is_open_map, is_tagged, Spells, string_type, string_item, most_string, most_depth, indefinite}
-use Rattle.cd_cbor.specs.Readings.{Reading, piece, byte_at, times, until_break}
-use Rattle.cd_cbor.specs.Reading.{ItemReader, argument_at, string_at, chunks_at, definite_string_at, chunked_string_at, simple_at, entry_at, array_at, map_at, tagged_at, open_array_at, open_map_at, definite_at, indefinite_at, item_by, item_at}
+use Rattle.cd_cbor.specs.Spells.{other, Each, SpellsPair, SpellsString, SpellsChunks, SpellsPlain, is_unsigned, is_negative, is_string, is_chunked, is_simple, SpellsHolder, is_array, is_open_array, is_map, is_open_map, is_tagged, Spells, string_type, string_item, indefinite}
+use Rattle.cd_cbor.specs.Readings.{Reading, piece, until_break}
+use Rattle.cd_cbor.specs.Reading.{ItemReader, definite_string_at, chunked_string_at, simple_at, entry_at, array_at, map_at, tagged_at, open_array_at, open_map_at, definite_at, indefinite_at, item_by, item_at}
 use Rattle.cd_cbor.specs.declared.item.Item.{Item}
 use Rattle.cd_cbor.specs.declared.fault.Why.{Why}
 use Rattle.cd_cbor.specs.declared.fault.Why.TheVariants as why
 use Rattle.cd_cbor.specs.declared.major_type.MajorType.{MajorType}
 use Rattle.cd_cbor.specs.declared.major_type.MajorType.TheVariants as major
-use Rattle.cd_cbor.proofs.Offsets.{drop_on, lies_within, piece_is, first_is}
-use Rattle.cd_cbor.proofs.HeadsRead.{HeadIs, head_reads, item_of_head, item_of_indefinite, head_begins, begins_append, Begins}
+use Rattle.cd_cbor.proofs.Offsets.{drop_on, lies_within, piece_is}
+use Rattle.cd_cbor.proofs.HeadsRead.{head_reads, item_of_head, item_of_indefinite, head_begins, begins_append, Begins}
 use Rattle.cd_cbor.proofs.EachRead.{Reads, AllBegin, Step, times_reads, until_reads, each_length}
 use Rattle.cd_cbor.proofs.StringsRead.{string_begins, string_head, string_reads, chunks_read}
 use Rattle.cd_cbor.proofs.Depths.{item_at_is}

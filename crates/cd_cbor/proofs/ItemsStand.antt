@@ -1,7 +1,7 @@
 -- An item that is read is spelled so.
-use Rattle.std.proofs.Common.{◌≡◌, ℕ, zero, suc, ◌+◌, ◌-◌, ◌*◌, ◌/◌, ◌%◌, ◌<◌, ◌≤◌, Bool, true, false, cond, List, [], ◌∷◌, ◌++◌, length, take, drop, Result, Ok, Err, inl, inr, refl, ap, sym, subst, ◌∙◌, arith, append_assoc, length-append}
-use Rattle.std.specs.Prelude.{nat_lt, nat_eq, ◌&&◌, ◌⊎◌, All}
-use Rattle.std.proofs.lemmas.Bool.{cases_Bool, cases_lt, and_cases, le-ltb, lt-ltb, eq-eqb, ne_eqb, ltb-true, ltb-false, eqb-false}
+use Rattle.std.proofs.Common.{◌≡◌, ℕ, zero, suc, ◌+◌, ◌-◌, ◌/◌, ◌%◌, ◌<◌, ◌≤◌, Bool, true, false, cond, List, [], ◌∷◌, ◌++◌, length, drop, Ok, inl, inr, refl, ap, sym, subst, ◌∙◌, arith, length-append}
+use Rattle.std.specs.Prelude.{nat_lt, nat_eq, ◌&&◌, All}
+use Rattle.std.proofs.lemmas.Bool.{cases_Bool, cases_lt, and_cases, le-ltb, lt-ltb, ltb-true, ltb-false, eqb-false}
 use Rattle.cd_cbor.specs.MajorTypes.{major_number}
 use Rattle.cd_cbor.specs.Heads.{IsHead, major_type, argument_size}
 use Rattle.cd_cbor.specs.Items.{unsigned, negative, array, entries}
@@ -13,7 +13,7 @@ use Rattle.cd_cbor.specs.declared.fault.Why.{Why}
 use Rattle.cd_cbor.specs.declared.fault.Why.TheVariants as why
 use Rattle.cd_cbor.specs.declared.major_type.MajorType.{MajorType}
 use Rattle.cd_cbor.specs.declared.major_type.MajorType.TheVariants as major
-use Rattle.cd_cbor.proofs.Binds.{bind_ok, ok_same, not_ok, if_ok_else, if_err_else}
+use Rattle.cd_cbor.proofs.Binds.{bind_ok, ok_same, not_ok, if_err_else}
 use Rattle.cd_cbor.proofs.Offsets.{piece_is}
 use Rattle.cd_cbor.proofs.Stands.{Stands, IsSound, Told, Before, byte_there, byte_small, number_of_type, head_there, times_sound, until_sound}
 use Rattle.cd_cbor.proofs.StringsStand.{two_parts, string_stands, chunks_stand}

@@ -1,18 +1,16 @@
 -- The laws of spellings.
-use Rattle.std.proofs.Common.{◌≡◌, ℕ, ◌+◌, ◌≤◌, ◌<◌, List, [], ◌∷◌, ◌++◌, length, take, drop, Ok, refl, ap, sym, subst, ◌∙◌, arith, length-append}
+use Rattle.std.proofs.Common.{◌≡◌, ℕ, ◌+◌, List, [], ◌∷◌, ◌++◌, length, take, drop, Ok, refl, ap, sym, subst, ◌∙◌, arith, length-append}
 use Rattle.std.proofs.lemmas.List.{append-nil}
 use Rattle.std.proofs.Math.Seq.{take-append_seam}
 use Rattle.cd_cbor.specs.Laws.{SpelledIsRead, ReadIsSpelled, NoSpellingGoesOn, OneItemIsSpelled, ReadingsStay, WrittenIsSpelling}
 use Rattle.cd_cbor.specs.Spells.{Cbor, Spells, most_depth}
 use Rattle.cd_cbor.specs.Reading.{cbor}
-use Rattle.cd_cbor.specs.declared.item.Item.{Item}
 use Rattle.cd_cbor.specs.declared.fault.Why.TheVariants as why
 use Rattle.cd_cbor.proofs.Binds.{ok_same}
-use Rattle.cd_cbor.proofs.HeadsRead.{Begins}
-use Rattle.cd_cbor.proofs.ItemsRead.{item_reads, item_begins}
+use Rattle.cd_cbor.proofs.ItemsRead.{item_reads}
 use Rattle.cd_cbor.proofs.Stands.{Stands}
 use Rattle.cd_cbor.proofs.ItemsStand.{item_sound}
-use Rattle.cd_cbor.proofs.Growing.{Goes, item_goes, item_within}
+use Rattle.cd_cbor.proofs.Growing.{item_goes, item_within}
 use Rattle.cd_cbor.proofs.Written.{item_written}
 
 pub spelled_is_read : SpelledIsRead

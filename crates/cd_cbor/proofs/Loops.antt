@@ -1,11 +1,10 @@
 -- Before the first of what a loop reads, and what it changes.
-use Rattle.std.proofs.Common.{◌≡◌, ℕ, ◌+◌, ◌-◌, ◌<◌, ◌≤◌, Bool, List, [], ◌∷◌, ◌++◌, length, Result, Ok, refl, ap, sym, ◌∙◌, arith, append-nil, append_assoc, length-append}
+use Rattle.std.proofs.Common.{◌≡◌, ℕ, ◌+◌, ◌-◌, ◌<◌, Bool, List, [], ◌∷◌, ◌++◌, length, Ok, ap, sym, ◌∙◌, append-nil, append_assoc, length-append}
 use Rattle.std.specs.List.{concat}
 use Rattle.std.proofs.lemmas.Bool.{ne_eqb}
 use Rattle.cd_cbor.specs.Readings.{Reading, ◌>>=◌, byte_at, times, until_break}
 use Rattle.cd_cbor.specs.Reading.{ItemReader, argument_at, joined, chunk_at, chunks_at, entry_at, array_of, map_of, array_at, map_at, open_array_at, open_map_at}
 use Rattle.cd_cbor.specs.declared.item.Item.{Item}
-use Rattle.cd_cbor.specs.declared.fault.CborFault.{CborFault}
 use Rattle.cd_cbor.specs.declared.fault.Why.TheVariants as why
 use Rattle.cd_cbor.proofs.Repeats.{with_front, times_start, until_start, until_more}
 

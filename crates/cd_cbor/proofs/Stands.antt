@@ -1,15 +1,15 @@
 -- What a reading tells of the bytes that it read.
-use Rattle.std.proofs.Common.{◌≡◌, ℕ, zero, suc, ◌+◌, ◌-◌, ◌*◌, ◌/◌, ◌%◌, ◌^◌, ◌<◌, ◌≤◌, Bool, true, false, List, [], ◌∷◌, ◌++◌, length, take, drop, get_or, Result, Ok, Err, inl, inr, refl, ap, sym, subst, ◌∙◌, arith, append_assoc, length-append}
+use Rattle.std.proofs.Common.{◌≡◌, ℕ, zero, suc, ◌+◌, ◌*◌, ◌/◌, ◌%◌, ◌^◌, ◌<◌, ◌≤◌, List, [], ◌∷◌, ◌++◌, length, drop, get_or, Result, Ok, inl, inr, refl, ap, sym, subst, ◌∙◌, arith, append_assoc, length-append}
 use Rattle.std.specs.Prelude.{nat_lt, nat_eq, slice_index, All}
 use Rattle.std.specs.Int.{from_be_bytes, w16, w32, w64}
-use Rattle.std.proofs.lemmas.Bool.{cases_Bool, cases_lt, cases_eq, lt-ltb, le-ltb, ltb-true, ltb-false, eqb-true, eqb-false}
+use Rattle.std.proofs.lemmas.Bool.{cases_Bool, cases_lt, lt-ltb, le-ltb, ltb-true, ltb-false, eqb-true}
 use Rattle.std.proofs.lemmas.List.{drop-drop, length-drop, length-take, take-append-drop, get_or_past}
 use Rattle.std.proofs.lemmas.List.Elements.{All-get_or, All-take, All-drop}
 use Rattle.std.proofs.Math.Seq.{drop-cons}
 use Rattle.cd_cbor.specs.MajorTypes.{major_number}
 use Rattle.cd_cbor.specs.Heads.{IsHead, major_type, argument_size, argument_of}
 use Rattle.cd_cbor.specs.Spells.{Each}
-use Rattle.cd_cbor.specs.Readings.{Reading, ◌>>=◌, byte_at, piece, times, until_break}
+use Rattle.cd_cbor.specs.Readings.{Reading, byte_at, piece, times, until_break}
 use Rattle.cd_cbor.specs.Reading.{argument_at}
 use Rattle.cd_cbor.proofs.Binds.{bind_ok, ok_same, not_ok, if_ok_else, if_err_else}
 use Rattle.cd_cbor.specs.declared.fault.CborFault.{CborFault}
@@ -148,14 +148,15 @@ times_sound {A} Spelled bytes read sound (suc count) at xs next h =
     let a = sound at one.0.0 one.0.1 one.1 in
     let b = times_sound Spelled bytes read sound count one.0.1 more.0.0 more.0.1 more.1 in
     let long : length xs ≡ suc count = ap length (sym whole) ∙ ap suc b.0 in
-    let bs = b.1 in
-    (long,
-    record {
-      s = a.s ++ bs.s;
-      has = subst (λ ys. Each Spelled ys (a.s ++ bs.s)) whole (a.s, bs.s, refl, a.has, bs.has);
-      is = a.is ∙ ap (λ t. a.s ++ t) bs.is ∙ sym (append_assoc a.s bs.s (drop more.0.1 bytes)) ∙ ap (λ k. (a.s ++ bs.s) ++ drop k bytes) end;
-      ends = omega (arith, a.ends, bs.ends, length-append a.s bs.s);
-    })
+    let bs = b.1 in (
+      long,
+      record {
+        s = a.s ++ bs.s;
+        has = subst (λ ys. Each Spelled ys (a.s ++ bs.s)) whole (a.s, bs.s, refl, a.has, bs.has);
+        is = a.is ∙ ap (λ t. a.s ++ t) bs.is ∙ sym (append_assoc a.s bs.s (drop more.0.1 bytes)) ∙ ap (λ k. (a.s ++ bs.s) ++ drop k bytes) end;
+        ends = omega (arith, a.ends, bs.ends, length-append a.s bs.s);
+      },
+    )
 
 -- values that stand before a break
 pub record Before {A P : Type 0} (Spelled : A → List ℕ → Type 0) (Fits : P → List A → Type 0) (bytes : List ℕ) (place : P) (at : ℕ) (xs : List A) (next : ℕ) : Type 0 where

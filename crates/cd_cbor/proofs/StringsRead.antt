@@ -1,14 +1,12 @@
 -- A string that is spelled is read.
-use Rattle.std.proofs.Common.{◌≡◌, ℕ, zero, suc, ◌+◌, ◌-◌, ◌*◌, ◌/◌, ◌%◌, ◌<◌, ◌≤◌, Bool, true, false, List, [], ◌∷◌, ◌++◌, length, take, drop, Ok, refl, ap, sym, subst, ◌∙◌, arith, append_assoc, length-append}
-use Rattle.std.specs.Prelude.{nat_lt, nat_eq, ◌&&◌}
+use Rattle.std.proofs.Common.{◌≡◌, ℕ, ◌+◌, ◌*◌, ◌/◌, ◌%◌, ◌<◌, ◌≤◌, Bool, List, [], ◌∷◌, ◌++◌, length, drop, Ok, refl, ap, sym, subst, ◌∙◌, arith, append_assoc, length-append}
 use Rattle.std.specs.List.{concat}
 use Rattle.std.proofs.lemmas.Bool.{lt-ltb, le-ltb, eq-eqb}
 use Rattle.cd_cbor.specs.MajorTypes.{major_number}
-use Rattle.cd_cbor.specs.Heads.{IsHead}
-use Rattle.cd_cbor.specs.Spells.{Each, SpellsString, SpellsChunks, string_type, string_item, is_content, most_string, indefinite}
-use Rattle.cd_cbor.specs.Readings.{byte_at, piece, until_break}
-use Rattle.cd_cbor.specs.Reading.{argument_at, content_at, string_at, is_chunk, chunk_at, chunks_at}
-use Rattle.cd_cbor.proofs.Offsets.{drop_on, lies_within, piece_is, first_is}
+use Rattle.cd_cbor.specs.Spells.{SpellsString, SpellsChunks, string_type, most_string, indefinite}
+use Rattle.cd_cbor.specs.Readings.{piece}
+use Rattle.cd_cbor.specs.Reading.{content_at, string_at, chunk_at, chunks_at}
+use Rattle.cd_cbor.proofs.Offsets.{drop_on, lies_within, piece_is}
 use Rattle.cd_cbor.proofs.HeadsRead.{HeadIs, head_reads, head_begins, begins_append, Begins}
 use Rattle.cd_cbor.proofs.EachRead.{Step, until_reads, each_length, AllBegin}
 
@@ -48,8 +46,14 @@ chunk_reads is_text before at bytes content s rest e h short =
     let a = string_head is_text at bytes content s rest e h in
     let type : (32 * major_number (string_type is_text) + info) / 32 ≡ major_number (string_type is_text) = omega arith in
     let same : (32 * major_number (string_type is_text) + info) % 32 ≡ info = omega arith in
-    rw (a.first, type, same, eq-eqb (major_number (string_type is_text)) (major_number (string_type is_text)) refl, lt-ltb info 28 low,
-    string_reads is_text before at bytes content s rest e h short) refl
+    rw (
+      a.first,
+      type,
+      same,
+      eq-eqb (major_number (string_type is_text)) (major_number (string_type is_text)) refl,
+      lt-ltb info 28 low,
+      string_reads is_text before at bytes content s rest e h short,
+    ) refl
 
 -- a chunk, and those after it, are together no longer than a string may be
 abbrev pub ChunksFit : ℕ × ℕ → List (List ℕ) → Type 0

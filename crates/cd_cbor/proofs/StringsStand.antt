@@ -1,11 +1,11 @@
 -- A string that is read is spelled so.
-use Rattle.std.proofs.Common.{◌≡◌, ℕ, zero, suc, ◌+◌, ◌-◌, ◌*◌, ◌/◌, ◌%◌, ◌<◌, ◌≤◌, Bool, true, false, List, [], ◌∷◌, ◌++◌, length, take, drop, Result, Ok, Err, refl, ap, sym, subst, ◌∙◌, arith, append_assoc, length-append}
-use Rattle.std.specs.Prelude.{nat_lt, nat_eq, ◌&&◌, All}
+use Rattle.std.proofs.Common.{◌≡◌, ℕ, ◌+◌, ◌/◌, ◌%◌, ◌<◌, ◌≤◌, Bool, List, [], ◌∷◌, ◌++◌, length, drop, Ok, refl, ap, sym, subst, ◌∙◌, arith, append_assoc, length-append}
+use Rattle.std.specs.Prelude.{nat_lt, nat_eq, All}
 use Rattle.std.specs.List.{concat}
 use Rattle.std.proofs.lemmas.Bool.{and_parts, ltb-true, ltb-false, eqb-true}
 use Rattle.cd_cbor.specs.MajorTypes.{major_number}
 use Rattle.cd_cbor.specs.Heads.{IsHead, major_type}
-use Rattle.cd_cbor.specs.Spells.{Each, SpellsString, SpellsChunks, string_type, is_content, most_string, indefinite}
+use Rattle.cd_cbor.specs.Spells.{SpellsString, SpellsChunks, string_type, is_content, most_string, indefinite}
 use Rattle.cd_cbor.specs.Readings.{byte_at, piece, until_break}
 use Rattle.cd_cbor.specs.Reading.{argument_at, content_at, string_at, is_chunk, chunk_at, chunks_at}
 use Rattle.cd_cbor.proofs.Binds.{bind_ok, ok_same, if_ok_else, if_err_else}
@@ -37,20 +37,21 @@ string_stands is_text before at bytes first content next all there low type h =
     let p = piece_there start n bytes (ltb-false (length bytes) (start + n) room.0) in
     let long : n ≡ length content = sym p.1 ∙ ap length same in
     let most : before + n ≤ most_string = ltb-false most_string (before + n) short.0 in
-    let after : drop start bytes ≡ content ++ drop next bytes = p.0 ∙ ap (λ t. t ++ drop (start + n) bytes) same ∙ ap (λ k. content ++ drop k bytes) end in
-    (record {
-      s = head.s ++ content;
-      has = record {
-        head = head.s;
-        is_head = subst (λ k. IsHead (string_type is_text) k head.s) long (subst (λ m. IsHead m n head.s) type head.has);
-        whole = refl;
-        short = omega arith;
-        right = ap (is_content is_text) (sym same) ∙ right.0;
-      };
-      is = two_parts at bytes head.s content start next head.is after;
-      ends = omega (arith, head.ends, length-append head.s content);
-    },
-    omega arith)
+    let after : drop start bytes ≡ content ++ drop next bytes = p.0 ∙ ap (λ t. t ++ drop (start + n) bytes) same ∙ ap (λ k. content ++ drop k bytes) end in (
+      record {
+        s = head.s ++ content;
+        has = record {
+          head = head.s;
+          is_head = subst (λ k. IsHead (string_type is_text) k head.s) long (subst (λ m. IsHead m n head.s) type head.has);
+          whole = refl;
+          short = omega arith;
+          right = ap (is_content is_text) (sym same) ∙ right.0;
+        };
+        is = two_parts at bytes head.s content start next head.is after;
+        ends = omega (arith, head.ends, length-append head.s content);
+      },
+      omega arith,
+    )
 
 -- a chunk
 chunk_told : (is_text : Bool) (bytes : List ℕ) → All (λ byte. byte < 256) bytes → (place : ℕ × ℕ) (x : List ℕ) (next : ℕ × ℕ) → ChunksFit place [] →

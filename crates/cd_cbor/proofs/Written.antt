@@ -1,17 +1,15 @@
 -- What is written of an item that has a spelling is a spelling of it.
-use Rattle.std.proofs.Common.{◌≡◌, ℕ, zero, suc, ◌+◌, ◌^◌, ◌<◌, ◌≤◌, Bool, true, false, List, [], ◌∷◌, ◌++◌, length, map, inl, inr, refl, ap, sym, subst, ◌∙◌, arith, append_assoc, length-append}
-use Rattle.std.specs.Prelude.{◌⊎◌}
+use Rattle.std.proofs.Common.{◌≡◌, ℕ, zero, suc, ◌^◌, ◌<◌, ◌≤◌, Bool, true, false, List, [], ◌∷◌, ◌++◌, length, inl, inr, refl, ap, sym, subst, ◌∙◌, arith, append_assoc, length-append}
 use Rattle.std.specs.List.{concat}
-use Rattle.std.specs.Int.{to_be_bytes, from_be_bytes, w16, w32, w64}
-use Rattle.std.specs.Str.{is_utf8, IsUtf8}
+use Rattle.std.specs.Int.{to_be_bytes, w16, w32, w64}
 use Rattle.std.proofs.lemmas.Bool.{cases_lt, le-ltb, lt-ltb}
 use Rattle.std.proofs.lemmas.Nat.{from_be_bytes-to_be_bytes_2, from_be_bytes-to_be_bytes_4, from_be_bytes-to_be_bytes_8}
 use Rattle.std.proofs.lemmas.Str.{IsUtf8-append, IsUtf8-nil, IsUtf8-from_is_utf8, is_utf8-from_IsUtf8}
 use Rattle.cd_cbor.specs.MajorTypes.{major_number}
 use Rattle.cd_cbor.specs.Heads.{IsHead, argument_size, argument_of}
-use Rattle.cd_cbor.specs.Items.{unsigned, negative, bytes, text, array, entries}
+use Rattle.cd_cbor.specs.Items.{unsigned, negative, array, entries}
 use Rattle.cd_cbor.specs.Spelling.{head, spelling, spelling_step, spelling_all, spelling_pairs}
-use Rattle.cd_cbor.specs.Spells.{other, Each, SpellsPair, SpellsString, SpellsChunks, SpellsPlain, is_unsigned, is_negative, is_string, is_chunked, is_simple, SpellsHolder, is_array, is_open_array, is_map, is_open_map, is_tagged, Spells, string_type, string_item, is_content, indefinite}
+use Rattle.cd_cbor.specs.Spells.{other, Each, SpellsPair, SpellsString, SpellsPlain, is_unsigned, is_negative, is_string, is_chunked, is_simple, SpellsHolder, is_array, is_open_array, is_map, is_open_map, is_tagged, Spells, string_type, string_item, is_content, indefinite}
 use Rattle.cd_cbor.specs.declared.item.Item.{Item}
 use Rattle.cd_cbor.specs.declared.item.Item.TheOpen.{Item-F}
 use Rattle.cd_cbor.specs.declared.item.Item.TheFolds.{fold-roll-Item}
@@ -103,8 +101,7 @@ IsWritten P = (item : Item) (s : List ℕ) → length s < 2 ^ 64 → P item s �
 each_written : (P : Item → List ℕ → Type 0) → IsWritten P → (items : List Item) (s : List ℕ) → length s < 2 ^ 64 → Each P items s → Each P items (spelling_all items)
 each_written P written [] s few has = refl
 each_written P written (item ∷ items) s few has =
-    let long : length s ≡ length (has.0 ++ has.1) = ap length has.2 in
-    (
+    let long : length s ≡ length (has.0 ++ has.1) = ap length has.2 in (
       spelling item,
       spelling_all items,
       refl,
@@ -118,8 +115,7 @@ pairs_written P written [] s few has = refl
 pairs_written P written (pair ∷ pairs) s few has =
     let long : length s ≡ length (has.0 ++ has.1) = ap length has.2 in
     let both = has.3 in
-    let inner : length has.0 ≡ length (both.0 ++ both.1) = ap length both.2 in
-    (
+    let inner : length has.0 ≡ length (both.0 ++ both.1) = ap length both.2 in (
       spelling pair.0 ++ spelling pair.1,
       spelling_pairs pairs,
       sym (append_assoc (spelling pair.0) (spelling pair.1) (spelling_pairs pairs)),

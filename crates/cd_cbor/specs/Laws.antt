@@ -1,7 +1,7 @@
 -- What is known of spellings, and of what bytes are read as.
-use Rattle.std.specs.Prelude.{◌≡◌, ℕ, ◌<◌, ◌≤◌, ◌^◌, List, [], ◌++◌, length, take, Ok, Err, All}
+use Rattle.std.specs.Prelude.{◌≡◌, ℕ, ◌<◌, ◌≤◌, ◌^◌, List, [], ◌++◌, length, take, Ok, All}
 use Rattle.cd_cbor.specs.Spelling.{spelling}
-use Rattle.cd_cbor.specs.Spells.{Cbor, Spells}
+use Rattle.cd_cbor.specs.Spells.{Cbor}
 use Rattle.cd_cbor.specs.Reading.{cbor}
 use Rattle.cd_cbor.specs.Readings.{refused}
 use Rattle.cd_cbor.specs.declared.item.Item.{Item}

@@ -1,6 +1,6 @@
 -- What some bytes are: an item and its length, or the first fault with its place (RFC 8949 3 and Appendix C). A fault
 -- stands at the head that shows it, an end of the bytes at their end.
-use Rattle.std.specs.Prelude.{ℕ, zero, suc, ◌+◌, ◌-◌, ◌/◌, ◌%◌, nat_lt, nat_eq, Bool, true, false, ◌&&◌, List, length, Result, Ok, Err, if◌then◌else◌}
+use Rattle.std.specs.Prelude.{ℕ, zero, suc, ◌+◌, ◌-◌, ◌/◌, ◌%◌, nat_lt, nat_eq, Bool, true, false, ◌&&◌, List, length, Result, Ok, if◌then◌else◌}
 use Rattle.std.specs.List.{concat}
 use Rattle.cd_cbor.specs.Heads.{major_type, argument_size, argument_of}
 use Rattle.cd_cbor.specs.MajorTypes.{major_number}
@@ -32,7 +32,7 @@ unfoldable pub string_at : Bool → ℕ → ℕ → ℕ → List ℕ → Reading
 string_at is_text before info at bytes = do
   size ← argument_at info at bytes
   if nat_lt most_string (before + size.0) then refused at why.Length
-    else content_at is_text at size.0 size.1 bytes
+      else content_at is_text at size.0 size.1 bytes
 
 -- this is the first byte of a string of definite length
 abbrev pub is_chunk : Bool → ℕ → Bool
@@ -43,9 +43,9 @@ unfoldable pub chunk_at : Bool → List ℕ → ℕ × ℕ → Result (List ℕ 
 chunk_at is_text bytes place = do
   first ← byte_at place.1 bytes
   if is_chunk is_text first then (do
-      chunk ← string_at is_text place.0 (first % 32) place.1 bytes
-      Ok (chunk.0, (place.0 + length chunk.0, chunk.1)))
-    else refused place.1 why.Head
+    chunk ← string_at is_text place.0 (first % 32) place.1 bytes
+    Ok (chunk.0, (place.0 + length chunk.0, chunk.1)))
+      else refused place.1 why.Head
 
 -- what some chunks are together
 abbrev pub joined : List (List ℕ) × ℕ → Reading (List ℕ)
@@ -73,7 +73,7 @@ unfoldable pub simple_at : ℕ → ℕ → List ℕ → Reading Item
 simple_at info at bytes = do
   value ← argument_at info at bytes
   if nat_eq info 24 && nat_lt value.0 32 then refused at why.Head
-    else Ok (other (piece at (value.1 - at) bytes), value.1)
+      else Ok (other (piece at (value.1 - at) bytes), value.1)
 
 -- reads an item from an offset on, at which a break is this fault
 abbrev pub ItemReader : Type 0
@@ -101,21 +101,21 @@ opened depth at reading = if nat_eq depth 0 then refused at why.Depth else readi
 -- the array of definite length with its head at an offset
 unfoldable pub array_at : ℕ → ItemReader → ℕ → ℕ → List ℕ → Reading Item
 array_at depth inner info at bytes = opened depth at (do
-    count ← argument_at info at bytes
-    times count.0 (inner why.Break) count.1 >>= array_of)
+  count ← argument_at info at bytes
+  times count.0 (inner why.Break) count.1 >>= array_of)
 
 -- the map of definite length with its head at an offset
 unfoldable pub map_at : ℕ → ItemReader → ℕ → ℕ → List ℕ → Reading Item
 map_at depth inner info at bytes = opened depth at (do
-    count ← argument_at info at bytes
-    times count.0 (entry_at inner why.Break) count.1 >>= map_of)
+  count ← argument_at info at bytes
+  times count.0 (entry_at inner why.Break) count.1 >>= map_of)
 
 -- the tagged value with its head at an offset
 unfoldable pub tagged_at : ℕ → ItemReader → ℕ → ℕ → List ℕ → Reading Item
 tagged_at depth inner info at bytes = opened depth at (do
-    tag ← argument_at info at bytes
-    content ← inner why.Break tag.1
-    Ok (other (piece at (content.1 - at) bytes), content.1))
+  tag ← argument_at info at bytes
+  content ← inner why.Break tag.1
+  Ok (other (piece at (content.1 - at) bytes), content.1))
 
 -- the array up to a break with its head at an offset
 unfoldable pub open_array_at : ℕ → ItemReader → ℕ → List ℕ → Reading Item
@@ -158,8 +158,8 @@ unfoldable pub item_by : ℕ → ItemReader → Why → ℕ → List ℕ → Rea
 item_by depth inner broken at bytes = do
   first ← byte_at at bytes
   if nat_lt (first % 32) 28 then definite_at depth inner (major_type (first / 32)) (first % 32) at bytes
-    else (if nat_lt (first % 32) 31 then refused at why.Head
-    else indefinite_at depth inner broken (major_type (first / 32)) at bytes)
+      else (if nat_lt (first % 32) 31 then refused at why.Head
+      else indefinite_at depth inner broken (major_type (first / 32)) at bytes)
 
 -- the item at an offset, at which a break is this fault
 unfoldable pub item_at : ℕ → List ℕ → Why → ℕ → Reading Item

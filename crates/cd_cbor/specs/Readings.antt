@@ -1,5 +1,5 @@
 -- What a reading gives: a value and the offset after it, or the first fault from the left.
-use Rattle.std.specs.Prelude.{◌≡◌, ℕ, zero, suc, ◌+◌, nat_lt, nat_eq, List, [], ◌∷◌, ◌++◌, length, take, drop, slice_index, Result, Ok, Err, if◌then◌else◌}
+use Rattle.std.specs.Prelude.{◌≡◌, ℕ, zero, suc, ◌+◌, nat_lt, nat_eq, List, [], ◌∷◌, length, take, drop, slice_index, Result, Ok, Err, if◌then◌else◌}
 use Rattle.cd_cbor.specs.declared.fault.Why.{Why}
 use Rattle.cd_cbor.specs.declared.fault.Why.TheVariants as why
 use Rattle.cd_cbor.specs.declared.fault.CborFault.{CborFault}
@@ -46,10 +46,10 @@ until_break offset bytes zero read place = ends bytes
 until_break offset bytes (suc left) read place = do
   first ← byte_at (offset place) bytes
   if nat_eq first 0xff then Ok ([], offset place + 1)
-    else (do
-      value ← read place
-      others ← until_break offset bytes left read value.1
-      Ok (value.0 ∷ others.0, others.1))
+      else (do
+        value ← read place
+        others ← until_break offset bytes left read value.1
+        Ok (value.0 ∷ others.0, others.1))
 
 -- a fault is the one that is read, or memory ran out
 abbrev pub GivesFault : {Y : Type 0} → CborFault → Result Y CborFault → Type 0

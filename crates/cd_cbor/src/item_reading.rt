@@ -88,12 +88,7 @@ fn other(alloc: Global, bytes: &[u8], at: usize, end: usize) -> Result<Item, Cbo
 
 // The simple value or the float with its head at an offset.
 #[tactic(auto, unfolding(crate::specs::Reading::simple_at))]
-fn simple_at(
-    alloc: Global,
-    bytes: &[u8],
-    info: u8,
-    at: usize,
-) -> Result<(Item, usize), CborFault>
+fn simple_at(alloc: Global, bytes: &[u8], info: u8, at: usize) -> Result<(Item, usize), CborFault>
     requires { at < length bytes.now }
     ensures read { Gives (λ x. (x.0, x.1)) result (reading.simple_at info at bytes.now) }
     ensures within { IfOk result (λ x. (at < x.1) × (x.1 ≤ length bytes.now)) }

@@ -1,5 +1,5 @@
 -- Each step of a loop is a step of the definition.
-use Rattle.std.proofs.Common.{◌≡◌, ℕ, ◌+◌, ◌-◌, ◌<◌, ◌≤◌, List, [], ◌∷◌, ◌++◌, length, Ok, refl, ap, sym, subst, ◌∙◌, arith}
+use Rattle.std.proofs.Common.{ℕ, ◌-◌, length, arith}
 use Rattle.cd_cbor.specs.Items.{array, entries}
 use Rattle.cd_cbor.specs.Reading.{array_of, map_of, entry_at, array_at, map_at, open_array_at, open_map_at, item_at}
 use Rattle.cd_cbor.specs.declared.fault.Why.TheVariants as why

@@ -1,7 +1,6 @@
 -- Each step of the loop is a step of the definition.
-use Rattle.std.proofs.Common.{◌≡◌, ℕ, ◌+◌, ◌-◌, ◌<◌, List, [], ◌∷◌, ◌++◌, length, Ok, refl, ap, sym, subst, ◌∙◌, arith, length-append}
-use Rattle.std.specs.List.{concat}
-use Rattle.cd_cbor.specs.Readings.{◌>>=◌, GivesFault, until_break}
+use Rattle.std.proofs.Common.{◌≡◌, ℕ, ◌+◌, [], ◌∷◌, ◌++◌, length, Ok, ap, sym, subst, ◌∙◌, arith, length-append}
+use Rattle.cd_cbor.specs.Readings.{GivesFault}
 use Rattle.cd_cbor.specs.Reading.{joined, chunk_at, chunks_at}
 use Rattle.cd_cbor.proofs.Repeats.{until_fault, until_no_byte, until_stop, until_none}
 use Rattle.cd_cbor.proofs.Loops.{chunks_start, chunks_more, concat_more}
