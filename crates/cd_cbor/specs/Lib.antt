@@ -2,3 +2,8 @@ pub mod MajorTypes
 pub mod Spelling
 pub mod Items
 pub mod Integers
+pub mod Heads
+pub mod Spells
+pub mod Readings
+pub mod Reading
+pub mod Laws
