@@ -48,7 +48,7 @@ unfolding closed_part closed_part_of_events settled_records
 front_is_closed_part s bytes front is =
     let events : List EventParts = events_in s bytes in
     let P : List (Option ℕ) → Type 0 = λ p.
-        AreRuns (limits_of s) (records_at events (released_records (windows_of s) (views_of events) p)) is.released.runs in
+    AreRuns (limits_of s) (records_at events (released_records (windows_of s) (views_of events) p)) is.released.runs in
     let same = partners_only (windows_of s) (views_of events) is.released.partners is.released.pairing in
     is.same ∙ ap (λ runs. file_begun s.params (blocks_of s.params runs))
     (closed_only (limits_of s) (settled_records s events) is.released.runs (subst P same is.released.cut))
@@ -83,8 +83,8 @@ counts_only s bytes counts is =
     let events : List EventParts = events_in s bytes in
     let rules : EventRules = rules_of s in
     let total : List RecordParts → ℕ → Counts = λ rs blocks.
-        counts_of (packet_counts rules (compacted_packets rules bytes)) (record_counts s.params.rr_types rs) blocks
-        (is_cut_short (refusal_at_end rules bytes) (pcap bytes).end) in
+    counts_of (packet_counts rules (compacted_packets rules bytes)) (record_counts s.params.rr_types rs) blocks
+    (is_cut_short (refusal_at_end rules bytes) (pcap bytes).end) in
     let P : List (Option ℕ) → Type 0 = λ p. AreRuns (limits_of s) (records_at events (records p)) is.compaction.runs in
     let same = partners_only (windows_of s) (views_of events) is.compaction.partners is.compaction.pairing in
     is.same

@@ -41,9 +41,9 @@ closed_events_grow s es more heavy =
     let runs = closed_go_on limits (settled_records s es) records.0 in (
       concat (map block_spelling (blocks_of s.params runs.0)),
       ap (λ rs. file_begun s.params (blocks_of s.params (cut_of limits rs).closed)) records.1
-      ∙ ap (λ all. file_begun s.params (blocks_of s.params all)) runs.1
-      ∙ ap (file_begun s.params) (map-append (block_of s.params) closed runs.0)
-      ∙ begun_further s.params (blocks_of s.params closed) (blocks_of s.params runs.0),
+          ∙ ap (λ all. file_begun s.params (blocks_of s.params all)) runs.1
+          ∙ ap (file_begun s.params) (map-append (block_of s.params) closed runs.0)
+          ∙ begun_further s.params (blocks_of s.params closed) (blocks_of s.params runs.0),
     )
 
 -- it is a front of their file
@@ -58,11 +58,11 @@ closed_events_within s es =
     let others : List ℕ = concat (map block_spelling (blocks_of s.params runs.0)) in (
       others ++ file_end,
       ap (λ rs. file_of s.params (blocks_of s.params (runs_of limits rs))) records.1
-      ∙ ap (λ all. file_of s.params (blocks_of s.params all)) runs.1
-      ∙ ap (file_of s.params) (map-append (block_of s.params) closed runs.0)
-      ∙ file_ended s.params (blocks_of s.params closed ++ blocks_of s.params runs.0)
-      ∙ ap (λ t. t ++ file_end) (begun_further s.params (blocks_of s.params closed) (blocks_of s.params runs.0))
-      ∙ append_assoc begun others file_end,
+          ∙ ap (λ all. file_of s.params (blocks_of s.params all)) runs.1
+          ∙ ap (file_of s.params) (map-append (block_of s.params) closed runs.0)
+          ∙ file_ended s.params (blocks_of s.params closed ++ blocks_of s.params runs.0)
+          ∙ ap (λ t. t ++ file_end) (begun_further s.params (blocks_of s.params closed) (blocks_of s.params runs.0))
+          ∙ append_assoc begun others file_end,
     )
 
 -- what is closed stays as the bytes go on

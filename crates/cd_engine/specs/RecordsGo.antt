@@ -112,9 +112,9 @@ settled_go_on s es more heavy =
     let below : AreBelow (length es) front = subst Q (length-map es view_of_parts) (released_below w now (partners_of w now) (partners_pair w now)) in (
       records_at (es ++ more) stay.released.rest,
       ap (λ vs. records_at (es ++ more) (released_records w vs (partners_of w vs))) all
-      ∙ ap (records_at (es ++ more)) stay.released.whole
-      ∙ filter_map-append (record_at (es ++ more)) front stay.released.rest
-      ∙ ap (λ t. t ++ records_at (es ++ more) stay.released.rest) (records_same es more front below),
+          ∙ ap (records_at (es ++ more)) stay.released.whole
+          ∙ filter_map-append (record_at (es ++ more)) front stay.released.rest
+          ∙ ap (λ t. t ++ records_at (es ++ more) stay.released.rest) (records_same es more front below),
     )
 
 -- it is the first of all records
