@@ -37,11 +37,11 @@ pub open_from : (windows : Windows) (count clock weight_sum : ℕ) (s : StampedE
 open_from windows count clock weight_sum s W = and_from _ _ (and_from _ _ (lt-ltb _ _ W.near) (le-leb _ _ W.time)) (le-leb _ _ W.light)
 
 -- where an event stands among stamps that rise
-record Stands {E : Type 0} (view : E → EventView) (c s : ℕ) (b : Held E) (lc ls : ℕ) : Type 0 where
-  clock : c ≤ b.clock
-  sum : s + (view b.event).weight ≤ b.weight_sum
-  last_clock : b.clock ≤ lc
-  last_sum : b.weight_sum ≤ ls
+pub record Stands {E : Type 0} (view : E → EventView) (c s : ℕ) (b : Held E) (lc ls : ℕ) : Type 0 where
+  pub clock : c ≤ b.clock
+  pub sum : s + (view b.event).weight ≤ b.weight_sum
+  pub last_clock : b.clock ≤ lc
+  pub last_sum : b.weight_sum ≤ ls
 
 top : {E : Type 0} (view : E → EventView) (c s : ℕ) (hs : List (Option (Held E))) (lc ls : ℕ) → StampsRise view c s hs lc ls → (c ≤ lc) × (s ≤ ls)
 top view c s [] lc ls h = h
@@ -54,7 +54,7 @@ top view c s (Some x ∷ hs) lc ls h =
     let v = t.1 in
     (omega arith, omega arith)
 
-stands : {E : Type 0} (view : E → EventView) (c s : ℕ) (hs : List (Option (Held E))) (l : ℕ) (b : Held E) (lc ls : ℕ) → get_or hs l None ≡ Some b → StampsRise view c s hs lc ls → Stands view c s b lc ls
+pub stands : {E : Type 0} (view : E → EventView) (c s : ℕ) (hs : List (Option (Held E))) (l : ℕ) (b : Held E) (lc ls : ℕ) → get_or hs l None ≡ Some b → StampsRise view c s hs lc ls → Stands view c s b lc ls
 stands view c s [] zero b lc ls e h = absurd (none-some b e)
 stands view c s [] (suc l) b lc ls e h = absurd (none-some b e)
 stands view c s (None ∷ hs) zero b lc ls e h = absurd (none-some b e)
