@@ -3,8 +3,9 @@ use Rattle.std.proofs.Common.{◌≡◌, ℕ, zero, suc, ◌<◌, ◌≤◌, ◌
 use Rattle.std.specs.Prelude.{IsSome, is_some}
 use Rattle.std.specs.List.{count_by, sum_by}
 use Rattle.std.specs.Cmp.{IsEquivalence}
-use Rattle.std.proofs.lemmas.Bool.{cases_Bool, eqb-true, eq-eqb, both_ways, true≢false, false_from_ne_true}
+use Rattle.std.proofs.lemmas.Bool.{cases_Bool, eqb-true, eq-eqb, both_ways, true≢false, false_from_ne_true, cond-true, cond-false}
 use Rattle.std.proofs.lemmas.Option.{none-some}
+use Rattle.std.proofs.lemmas.List.{length_push}
 use Rattle.std.proofs.lemmas.List.Sums.{sum_by-cons}
 use Rattle.cd_chain.specs.Cells.{is_in, AreDistinct}
 use Rattle.cd_chain.specs.Chains.{without}
@@ -15,8 +16,10 @@ use Rattle.cd_window.proofs.Sublists.{was_in, length_without}
 use Rattle.cd_window.proofs.Indexing.{AreKeys}
 
 nil_push : (xs : List ℕ) (s : ℕ) → xs ++ s ∷ [] ≡ [] → ⊥
-nil_push [] s e = let l : 1 ≡ 0 = ap length e in omega arith
-nil_push (x ∷ xs) s e = let l : length (x ∷ (xs ++ s ∷ [])) ≡ 0 = ap length e in omega arith
+nil_push xs s e =
+    let l : length (xs ++ s ∷ []) ≡ 0 = ap length e in
+    let m = length_push xs s in
+    omega arith
 
 module _ {K : Type 0} (number : K → Option ℕ) (list : ℕ → Option (List ℕ)) where
   -- the same under other names
@@ -64,11 +67,11 @@ module _ {K : Type 0} (number : K → Option ℕ) (list : ℕ → Option (List �
   pub filled_less : (n : ℕ) (key : K) (number' : K → Option ℕ) (list' : ℕ → Option (List ℕ)) → ((k : K) → number' k ≡ cond (eq key k) None (number k)) → ((j : ℕ) → list' j ≡ cond (eqb j n) None (list j)) → AreFilled number list (λ k. eq key k) → AreFilled number' list' (λ k. false)
   filled_less n key number' list' en el F = record {
     each = λ k j e b empty.
-        let ne : eq key k ≡ false = false_from_ne_true (eq key k) (λ t. none-some j (sym (en k ∙ rw t refl) ∙ e)) in
-        let a : number k ≡ Some j = sym (en k ∙ rw ne refl) ∙ e in
+        let ne : eq key k ≡ false = false_from_ne_true (eq key k) (λ t. none-some j (sym (en k ∙ cond-true (eq key k) None (number k) t) ∙ e)) in
+        let a : number k ≡ Some j = sym (en k ∙ cond-false (eq key k) None (number k) ne) ∙ e in
         elim (cases_Bool (eqb j n)) [
-          | inl q ↦ none-some _ (sym (el j ∙ rw q refl) ∙ empty)
-          | inr q ↦ F.each k j a ne (sym (el j ∙ rw q refl) ∙ empty)
+          | inl q ↦ none-some _ (sym (el j ∙ cond-true (eqb j n) None (list j) q) ∙ empty)
+          | inr q ↦ F.each k j a ne (sym (el j ∙ cond-false (eqb j n) None (list j) q) ∙ empty)
         ];
   }
 
@@ -97,10 +100,10 @@ module _ {K : Type 0} (number : K → Option ℕ) (list : ℕ → Option (List �
   pub filled_more : (slots : List ℕ) (n : ℕ) (key : K) (number' : K → Option ℕ) (list' : ℕ → Option (List ℕ)) → AreByKey number list has eq slots → list n ≡ None → ((k : K) → number' k ≡ cond (eq key k) (Some n) (number k)) → ((j : ℕ) → list' j ≡ cond (eqb j n) (Some []) (list j)) → AreFilled number list (λ k. false) → AreFilled number' list' (λ k. eq key k)
   filled_more slots n key number' list' A l0 en el F = record {
     each = λ k j e ne empty.
-        let a : number k ≡ Some j = sym (en k ∙ rw ne refl) ∙ e in
+        let a : number k ≡ Some j = sym (en k ∙ cond-false (eq key k) (Some n) (number k) ne) ∙ e in
         elim (cases_Bool (eqb j n)) [
           | inl q ↦ none-some _ (sym l0 ∙ ap list (sym (eqb-true j n q)) ∙ A.lists k j a)
-          | inr q ↦ F.each k j a refl (sym (el j ∙ rw q refl) ∙ empty)
+          | inr q ↦ F.each k j a refl (sym (el j ∙ cond-false (eqb j n) (Some []) (list j) q) ∙ empty)
         ];
   }
 

@@ -4,11 +4,33 @@ ghost use Rattle.cd_window.specs.Waiting.{waits_of, waits_with, joined_by};
 ghost use Rattle.cd_window.specs.Lists.{waits_in, IsListed, HasNoEmpty, HasRoom};
 ghost use Rattle.cd_window.specs.Joining.{before_next, after_next, CanJoin, Meets, Joins};
 
+use crate::key::key_of;
 use crate::stamps::Stamp;
-use crate::waiter::{Waiter, waiter_of};
+use crate::waiter::Waiter;
 use crate::waiting::Waiting;
 use cd_pairing::{Keyed, LEAST_WEIGHT, Side, Windows};
-use std::alloc::AllocError;
+use std::alloc::{AllocError, Global};
+
+// What waits of an event with this stamp.
+fn waiter_of<E: Keyed>(
+    alloc: Global,
+    event: &E,
+    stamp: Stamp,
+) -> Result<Waiter, AllocError>
+    ensures { IfOk result (λ w. waits_of w ≡
+        waits_with (E.view event.now) stamp.index stamp.clock stamp.weight_sum) }
+{
+    let alone = key_of(alloc, event.primary(), None)?;
+    let whole = key_of(alloc, event.primary(), event.secondary())?;
+    Ok(Waiter {
+        alone,
+        whole,
+        position: stamp.index,
+        clock: stamp.clock,
+        weight_sum: stamp.weight_sum,
+        weight: event.weight(),
+    })
+}
 
 // A window that is open for an event of the least weight by this stamp has the next event in it.
 fn before_next(next: Stamp) -> Stamp

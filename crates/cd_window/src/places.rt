@@ -1,4 +1,4 @@
-ghost use Rattle.std.specs.Prelude.{◌≡◌, ◌<◌, ◌≤◌, ◌+◌, ℕ, length, slice_set};
+ghost use Rattle.std.specs.Prelude.{◌≡◌, ◌<◌, ◌≤◌, ◌+◌, ℕ, length, slice_set, [], ◌∷◌, ◌++◌};
 ghost use Rattle.std.specs.VecDeque.{deque_len, deque_capacity};
 ghost use Rattle.std.specs.Prelude.{Some, None, IsSome, MatchOption, nat_lt, is_none, ◌&&◌};
 ghost use Rattle.cd_window.specs.Places.{place_at, IsAmong, HoldsNext};
@@ -59,30 +59,38 @@ fn set_partner<E: Drop>(places: &mut VecDeque<Option<Held<E>>>, k: usize, partne
     }
 }
 
+// Holds one event more, for which there is room.
+fn push_held<E: Drop>(places: &mut VecDeque<Option<Held<E>>>, held: Held<E>)
+    requires { deque_len places.old < deque_capacity places.old }
+    ensures { places.new.items ≡ places.old.items ++ Some held ∷ [] }
+{
+    match places.push_back(Some(held)) {
+        Ok(()) => {}
+        Err(_) => unreachable!(),
+    }
+}
+
 // Holds the next event, for which there is room, with the partner that it has met.
 pub(crate) fn hold_next<E: Drop>(
     first: u64,
     places: &mut VecDeque<Option<Held<E>>>,
     event: E,
     next: Stamp,
-    partner: Option<u64>,
+    met: Option<u64>,
 )
     requires room { deque_len places.old < deque_capacity places.old }
-    requires among { IsAmong first places.old.items partner }
-    ensures { HoldsNext first places.old.items event next partner places.new.items }
+    requires among { IsAmong first places.old.items met }
+    ensures { HoldsNext first places.old.items event next met places.new.items }
 {
-    if let Some(position) = partner {
-        set_partner(places, (position - first) as usize, next.index);
-    }
     let held = Held {
         event,
         clock: next.clock,
         weight_sum: next.weight_sum,
-        partner,
+        partner: met,
     };
-    match places.push_back(Some(held)) {
-        Ok(()) => {}
-        Err(_) => unreachable!(),
+    push_held(places, held);
+    if let Some(position) = met {
+        set_partner(places, (position - first) as usize, next.index);
     }
 }
 
