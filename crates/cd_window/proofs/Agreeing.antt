@@ -1,6 +1,6 @@
 -- Which keys two events have in common that agree in what identifies an exchange.
 use Rattle.std.proofs.Common.{◌≡◌, ℕ, Bool, true, false, ◌&&◌, ◌||◌, List, [], ◌∷◌, filter, map, cond, Option, Some, None, refl, ap, sym, ◌∙◌}
-use Rattle.std.specs.Prelude.{IsSome, is_none, nat_eq, slice_get}
+use Rattle.std.specs.Prelude.{IsSome, IfSome, is_none, nat_eq, slice_get}
 use Rattle.std.specs.Option.{option_eq, option_map}
 use Rattle.std.specs.Cmp.Lexicographic.{pointwise, nat_list_eq_equiv}
 use Rattle.std.proofs.lemmas.Bool.{both_ways}
@@ -10,11 +10,12 @@ use Rattle.cd_chain.specs.Cells.{is_in}
 use Rattle.cd_chain.specs.Contents.{Contents, value_at}
 use Rattle.cd_window.specs.declared.key.Key.{Key}
 use Rattle.cd_window.specs.declared.waiter.Waiter.{Waiter}
+use Rattle.cd_window.specs.declared.waiting.Waiting.{Waiting}
 use Rattle.cd_window.specs.Keys.{same_key, secondary_of}
-use Rattle.cd_window.specs.Waiting.{Waits, waits_of, agrees_with, AreRising}
-use Rattle.cd_window.specs.Lists.{key_is, has_key, those, shown, waits_in_slot, agrees_in_slot, earlier_slot}
-use Rattle.cd_window.proofs.Sublists.{filter_same}
-use Rattle.cd_window.proofs.Waits.{first_either}
+use Rattle.cd_window.specs.Waiting.{Waits, waits_of, agrees_with, AreRising, agreeing, but_at}
+use Rattle.cd_window.specs.Lists.{key_is, has_key, those, slots_in, shown, waits_in_slot, waits_in, Removes, agrees_in_slot, earlier_slot}
+use Rattle.cd_window.proofs.Sublists.{filter_same, first_is}
+use Rattle.cd_window.proofs.Waits.{first_either, agreeing_slot, gone_waits}
 
 and_true : (a b : Bool) → b ≡ true → (a && b) ≡ a
 and_true true b h = h
@@ -91,3 +92,24 @@ module _ (it : Contents Waiter) (w : Waiter) (slots : List ℕ) (used : (s : ℕ
       ap (λ (xs : List ℕ). slice_get xs 0) (sym (filter_same (λ s. has_key it 2 w.whole s || has_key it 2 w.alone s) (agrees_in_slot it (waits_of w)) slots
       (at_value (λ o. key_is 2 w.whole o || key_is 2 w.alone o) (λ o. agrees_with (waits_of w) (shown o)) (λ v. whole_agrees w v h))))
       ∙ first_either it (has_key it 2 w.whole) (has_key it 2 w.alone) slots r
+
+-- the first slot that passes a test is used
+pub first_used : (it : Contents Waiter) (p : ℕ → Bool) (slots : List ℕ) → ((s : ℕ) → is_in s slots ≡ true → IsSome (value_at it s)) → (o : Option ℕ) → o ≡ slice_get (filter p slots) 0 → IfSome o (λ s. IsSome (value_at it s))
+first_used it p slots used None e = tt
+first_used it p slots used (Some s) e = used s (first_is p slots s (sym e)).0
+
+-- what is left when the first event that agrees is taken
+pub record TakesAgreeing (x x' : Waiting) (w : Waiter) (position : ℕ) : Type 0 where
+  pub found : Some position ≡ agreeing (waits_of w) (waits_in x)
+  pub left : waits_in x' ≡ but_at position (waits_in x)
+
+pub takes_agreeing : (x x' : Waiting) (w taken : Waiter) (slot : ℕ) → Some slot ≡ slice_get (filter (agrees_in_slot x.store (waits_of w)) (slots_in x)) 0 → AreRising (waits_in x) → Removes x x' slot → value_at x.store slot ≡ Some taken → TakesAgreeing x x' w taken.position
+takes_agreeing x x' w taken slot e r R v =
+    let i = (first_is (agrees_in_slot x.store (waits_of w)) (slots_in x) slot (sym e)).0 in
+    let at : (waits_in_slot x.store slot).index ≡ taken.position = ap (λ (o : Option Waiter). (shown o).index) v in
+    record {
+      found = sym (agreeing_slot (waits_of w) (waits_in_slot x.store) (slots_in x) (Some slot) e ∙ ap (λ (n : ℕ). Some n) at);
+      left = ap (map (waits_in_slot x'.store)) R.slots
+          ∙ gone_waits (waits_in_slot x.store) (waits_in_slot x'.store) slot (slots_in x) i r (λ t ne. ap shown (R.others t ne))
+          ∙ ap (λ (n : ℕ). but_at n (waits_in x)) at;
+    }

@@ -4,9 +4,12 @@ use Rattle.std.specs.Prelude.{is_none}
 use Rattle.std.proofs.lemmas.Bool.{cases_eq, ne_eqb}
 use Rattle.std.proofs.lemmas.Option.{none-some}
 use Rattle.cd_pairing.specs.declared.keyed.Side.{Side}
+use Rattle.cd_pairing.specs.declared.keyed.Side.TheVariants.{Query, Response}
 use Rattle.cd_pairing.specs.Events.{EventView}
 use Rattle.cd_window.specs.declared.held.Held.{Held}
 use Rattle.cd_window.specs.declared.released.Released.{Released}
+use Rattle.cd_window.specs.declared.waiting.Waiting.{Waiting}
+use Rattle.cd_window.specs.Lists.{waits_in, IsListed, HasNoEmpty, KeepsWaiting}
 use Rattle.cd_window.specs.Seen.{Seen, count_of, held_at, stamped, waits_after}
 use Rattle.cd_window.specs.Keeping.{Keeps}
 use Rattle.cd_window.specs.Places.{place_at, Trims, TakesOne, TakesPair, Takes}
@@ -79,3 +82,11 @@ pop_waits {E} view w count weight r mid new gone side K P T = elim P [
         let ln : length new ≡ length mid - gone = ap length T.left ∙ length-drop gone mid in
         let within = T.within in
         omega arith
+
+-- what waits once the front is popped and let go of
+pub popped_waiting : {E : Type 0} (view : E → EventView) (w : Seen E) (count weight : ℕ) (r : Released E) (mid new : List (Option (Held E))) (gone : ℕ) (queries responses queries' responses' : Waiting) → Keeps view w count weight → KeepsWaiting view w queries responses → Takes view w.first w.held r mid → Trims mid new gone →
+    IsListed queries' → HasNoEmpty queries' → waits_in queries' ≡ but_at w.first (waits_in queries) → IsListed responses' → HasNoEmpty responses' → waits_in responses' ≡ but_at w.first (waits_in responses) → KeepsWaiting view (after w gone new) queries' responses'
+popped_waiting view w count weight r mid new gone queries responses queries' responses' K W P T ql qf qe rl rf re = record {
+  queries_wait = record { listed = ql; filled = qf; waits_are = qe ∙ ap (but_at w.first) W.queries_wait.waits_are ∙ pop_waits view w count weight r mid new gone Query K P T };
+  responses_wait = record { listed = rl; filled = rf; waits_are = re ∙ ap (but_at w.first) W.responses_wait.waits_are ∙ pop_waits view w count weight r mid new gone Response K P T };
+}

@@ -96,8 +96,8 @@ filter_between p m q h (x ∷ xs) =
     let r = filter_between p m q h xs in
     elim (cases_Bool (q x)) [
       | inl e ↦ elim (cases_Bool (m x)) [
-        | inl t ↦ rw (e, t, t) (ap (λ (ys : List Waits). cond (p x) (x ∷ ys) ys) r)
-        | inr t ↦ rw (e, t, t) r
+        | inl t ↦ rw (e, t) (ap (λ (ys : List Waits). cond (p x) (x ∷ ys) ys) r)
+        | inr t ↦ rw (e, t) r
       ]
       | inr e ↦
           let f : p x ≡ false = false_from_ne_true (p x) (λ t. true≢false (sym (h x t) ∙ e)) in

@@ -1,6 +1,6 @@
 -- What stands in the lists of events that wait, as events come and go.
 use Rattle.std.proofs.Common.{◌≡◌, ℕ, zero, suc, ◌<◌, ◌≤◌, ◌+◌, ◌^◌, Bool, true, false, not, ◌&&◌, ◌||◌, eqb, List, [], ◌∷◌, ◌++◌, length, get_or, map, cond, filter, Option, Some, None, refl, ap, sym, ◌∙◌, subst, arith, inl, inr}
-use Rattle.std.specs.Prelude.{IsSome, is_some, slice_get, slice_index_or}
+use Rattle.std.specs.Prelude.{IsSome, IfSome, is_some, slice_get, slice_index_or}
 use Rattle.std.proofs.lemmas.Bool.{cases_Bool, eqb-true, eq-eqb, both_ways, true≢false, false_from_ne_true}
 use Rattle.std.proofs.lemmas.Option.{none-some}
 use Rattle.std.proofs.lemmas.List.{length_push, map_push}
@@ -230,3 +230,23 @@ front_waits x y e = by (slots_in x) e
     by : (xs : List ℕ) → slice_get (map (waits_in_slot x.store) xs) 0 ≡ Some y → (s : ℕ) × (slice_get xs 0 ≡ Some s) × (waits_in_slot x.store s ≡ y)
     by [] f = absurd (none-some y f)
     by (s ∷ ss) f = let g : waits_in_slot x.store s ≡ y = cc in (s, refl, g)
+
+pub first_in : (xs : List ℕ) (s : ℕ) → slice_get xs 0 ≡ Some s → is_in s xs ≡ true
+first_in [] s e = absurd (none-some s e)
+first_in (x ∷ xs) s e = let same : s ≡ x = cc in rw (eq-eqb s x same) refl
+
+-- the store shows the event of a slot that holds one
+pub shown_at : (it : Contents Waiter) (s : ℕ) (w : Waiter) → value_at it s ≡ Some w → waits_in_slot it s ≡ waits_of w
+shown_at it s w e = ap shown e
+
+list_of_key : {S : Type 0} (m : IndexMap Key ℕ S) (it : Contents Waiter) (lane : ℕ) (slots : List ℕ) (key : Key) (o : Option ℕ) → IsIndexed it m lane slots → o ≡ number_of m key → IfSome o (λ k. IsSome (list_at it lane k))
+list_of_key m it lane slots key None A e = tt
+list_of_key m it lane slots key (Some k) A e = subst (λ (u : Option (List ℕ)). IsSome u) (sym (A.lists key k (sym e))) refl
+
+-- the lists that an event comes last in are there
+pub lists_there : (x : Waiting) (w : Waiter) (primary exchange : Option ℕ) → IsListed x → HasRoom x w → primary ≡ number_of x.primaries w.alone → exchange ≡ number_of x.exchanges w.whole →
+    (l : ℕ) → l < 3 → IfSome (slice_index_or (Some x.all ∷ primary ∷ exchange ∷ []) l None) (λ k. IsSome (list_at x.store l k))
+lists_there x w primary exchange L R ep ee zero lt = L.there
+lists_there x w primary exchange L R ep ee (suc zero) lt = list_of_key x.primaries x.store 1 (slots_in x) w.alone primary L.primaries ep
+lists_there x w primary exchange L R ep ee (suc (suc zero)) lt = list_of_key x.exchanges x.store 2 (slots_in x) w.whole exchange L.exchanges ee
+lists_there x w primary exchange L R ep ee (suc (suc (suc l))) lt = absurd (omega arith)

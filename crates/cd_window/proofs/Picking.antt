@@ -32,8 +32,8 @@ module _ {E : Type 0} (view : E → EventView) where
   waits_filter p test i (Some y ∷ hs) =
       let r = waits_filter p test (suc i) hs in
       elim (cases_Bool (test i y)) [
-        | inl e ↦ rw (e, e) (ap (λ (ws : List Waits). cond (p (waits_at view i y)) (waits_at view i y ∷ ws) ws) r)
-        | inr e ↦ rw (e, e) r
+        | inl e ↦ rw e (ap (λ (ws : List Waits). cond (p (waits_at view i y)) (waits_at view i y ∷ ws) ws) r)
+        | inr e ↦ rw e r
       ]
 
   -- one event more
@@ -43,8 +43,8 @@ module _ {E : Type 0} (view : E → EventView) where
   waits_push test i n (Some y ∷ hs) x e =
       let r = waits_push test (suc i) n hs x (omega arith) in
       elim (cases_Bool (test i y)) [
-        | inl t ↦ rw (t, t) (ap (λ (ws : List Waits). waits_at view i y ∷ ws) r)
-        | inr t ↦ rw (t, t) r
+        | inl t ↦ rw t (ap (λ (ws : List Waits). waits_at view i y ∷ ws) r)
+        | inr t ↦ rw t r
       ]
 
   and_not_other : (b : Bool) (j n : ℕ) → (j ≡ n → ⊥) → b ≡ (b && not (eqb j n))
@@ -138,18 +138,21 @@ module _ {E : Type 0} (view : E → EventView) where
   waits_none test i [] e (suc k) h at = absurd (none-some h at)
   waits_none test i (None ∷ hs) e zero h at = absurd (none-some h at)
   waits_none test i (None ∷ hs) e (suc k) h at = let z : i + suc k ≡ suc i + k = omega arith in ap (λ (j : ℕ). test j h) z ∙ waits_none test (suc i) hs e k h at
-  waits_none test i (Some y ∷ hs) e k h at = elim (cases_Bool (test i y)) [
+  waits_none test i (Some y ∷ hs) e zero h at = elim (cases_Bool (test i y)) [
+    | inl t ↦
+        let f : Some (waits_at view i y) ≡ None = rw t at e in
+        absurd (none-some (waits_at view i y) (sym f))
+    | inr t ↦ let z : i + 0 ≡ i = omega arith in ap (λ (j : ℕ). test j h) z ∙ ap (test i) (sym (same_some y h at)) ∙ t
+  ]
+  waits_none test i (Some y ∷ hs) e (suc k) h at = elim (cases_Bool (test i y)) [
     | inl t ↦
         let f : Some (waits_at view i y) ≡ None = rw t at e in
         absurd (none-some (waits_at view i y) (sym f))
     | inr t ↦
         let f : slice_get (waits_from view test (suc i) hs) 0 ≡ None = rw t at e in
-        by k at f t
+        let z : i + suc k ≡ suc i + k = omega arith in
+        ap (λ (j : ℕ). test j h) z ∙ waits_none test (suc i) hs f k h at
   ]
-    where
-      by : (m : ℕ) → get_or (Some y ∷ hs) m None ≡ Some h → slice_get (waits_from view test (suc i) hs) 0 ≡ None → test i y ≡ false → test (i + m) h ≡ false
-      by zero a f t = let z : i + 0 ≡ i = omega arith in ap (λ (j : ℕ). test j h) z ∙ ap (test i) (sym (same_some y h a)) ∙ t
-      by (suc m) a f t = let z : i + suc m ≡ suc i + m = omega arith in ap (λ (j : ℕ). test j h) z ∙ waits_none test (suc i) hs f m h a
 
   -- what is picked stands in the order of what is held
   rises_after : (test : ℕ → Held E → Bool) (x : Waits) (i c s : ℕ) (hs : List (Option (Held E))) (lc ls : ℕ) → x.index < i → x.clock ≤ c → x.weight_sum ≤ s → StampsRise view c s hs lc ls → RisesTo x (waits_from view test i hs)
@@ -208,7 +211,7 @@ module _ {E : Type 0} (view : E → EventView) where
 
   -- no more is picked than is held
   pub waits_few : (test : ℕ → Held E → Bool) (i : ℕ) (hs : List (Option (Held E))) → length (waits_from view test i hs) ≤ count_by is_some hs
-  waits_few test i [] = let z : count_by is_some ([]) ≡ 0 = refl in omega arith
+  waits_few test i [] = let z : count_by (λ (o : Option (Held E)). is_some o) [] ≡ 0 = refl in omega arith
   waits_few test i (None ∷ hs) =
       let a = waits_few test (suc i) hs in
       let q : count_by is_some (None ∷ hs) ≡ 0 + count_by is_some hs = sum_by-cons (λ (o : Option (Held E)). cond (is_some o) 1 0) None hs in

@@ -161,8 +161,8 @@ gone_waits f g s (t ∷ ts) i r h = elim (cases_Bool (eqb s t)) [
 filter_map_is : (p : Waits → Bool) (f : ℕ → Waits) (ss : List ℕ) → filter p (map f ss) ≡ map f (filter (λ s. p (f s)) ss)
 filter_map_is p f [] = refl
 filter_map_is p f (s ∷ ss) = elim (cases_Bool (p (f s))) [
-  | inl e ↦ rw (e, e) (ap (λ (ys : List Waits). f s ∷ ys) (filter_map_is p f ss))
-  | inr e ↦ rw (e, e) (filter_map_is p f ss)
+  | inl e ↦ rw e (ap (λ (ys : List Waits). f s ∷ ys) (filter_map_is p f ss))
+  | inr e ↦ rw e (filter_map_is p f ss)
 ]
 
 -- the first that agrees is that of the first slot whose event does
@@ -181,12 +181,12 @@ pub first_either : (it : Contents Waiter) (p q : ℕ → Bool) (ss : List ℕ) �
 first_either it p q [] r = refl
 first_either it p q (s ∷ ss) r = elim (cases_Bool (p s)) [
   | inl e ↦ elim (cases_Bool (q s)) [
-    | inl g ↦ rw (e, e, g) (sym (rw (le-leb (waits_in_slot it s).index (waits_in_slot it s).index (omega arith)) refl))
-    | inr g ↦ rw (e, e, g) (sym (first (slice_get (filter q ss) 0) refl))
+    | inl g ↦ rw (e, g) (sym (rw (le-leb (waits_in_slot it s).index (waits_in_slot it s).index (omega arith)) refl))
+    | inr g ↦ rw (e, g) (sym (first (slice_get (filter q ss) 0) refl))
   ]
   | inr e ↦ elim (cases_Bool (q s)) [
-    | inl g ↦ rw (e, e, g, g) (sym (second (slice_get (filter p ss) 0) refl))
-    | inr g ↦ rw (e, e, g, g) (first_either it p q ss r.1)
+    | inl g ↦ rw (e, g) (sym (second (slice_get (filter p ss) 0) refl))
+    | inr g ↦ rw (e, g) (first_either it p q ss r.1)
   ]
 ]
   where

@@ -5,9 +5,12 @@ use Rattle.cd_pairing.specs.declared.keyed.TheConstants.{LEAST_WEIGHT}
 use Rattle.cd_pairing.specs.declared.keyed.Side.{Side}
 use Rattle.cd_pairing.specs.declared.keyed.Side.TheVariants.{Query, Response, Neither}
 use Rattle.cd_pairing.specs.declared.keyed.Windows.{Windows}
+use Rattle.cd_pairing.specs.Events.{EventView}
 use Rattle.cd_window.specs.declared.stamps.Stamp.{Stamp}
 use Rattle.cd_window.specs.declared.waiting.Waiting.{Waiting}
-use Rattle.cd_window.specs.Waiting.{Waits, waits_still, AreRising, AllBefore, agreeing, joined_by, left_of}
+use Rattle.cd_window.specs.Seen.{Places}
+use Rattle.cd_window.specs.Places.{HoldsNext}
+use Rattle.cd_window.specs.Waiting.{Waits, waits_with, waits_still, AreRising, AllBefore, agreeing, joined_by, left_of}
 use Rattle.cd_window.specs.Lists.{waits_in, IsListed, HasNoEmpty}
 
 -- A window that is open for an event of the least weight by this stamp has the next event in it.
@@ -48,3 +51,11 @@ Joins windows Response x next met qs rs qs' rs' = Meets windows Response Query x
 Joins windows Neither x next met qs rs qs' rs' =
     (met ≡ None) × (qs' ≡ filter (waits_still windows Query (after_next next)) qs)
     × (rs' ≡ filter (waits_still windows Response (after_next next)) rs)
+
+-- the next event is held, with the partner that it meets
+pub record Admits {E : Type 0} (view : E → EventView) (windows : Windows) (first : ℕ) (e : E) (next : Stamp)
+    (old new : Places E) (qs rs qs' rs' : List Waits) : Type 0 where
+  pub met : Option ℕ
+  pub joins :
+      Joins windows (view e).side (waits_with (view e) next.index next.clock next.weight_sum) next met qs rs qs' rs'
+  pub holds : HoldsNext first old e next met new

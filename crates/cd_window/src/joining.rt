@@ -1,15 +1,19 @@
-ghost use Rattle.std.specs.Prelude.{◌≡◌, ◌≤◌, ◌<◌, ◌+◌, ◌-◌, ◌^◌, IfOk, OnErr};
+ghost use Rattle.std.specs.Prelude.{◌≡◌, ◌≤◌, ◌<◌, ◌+◌, ◌-◌, ◌^◌, ℕ, List, Option, IfOk, OnOk, IfErr, OnErr};
 ghost use Rattle.cd_pairing.specs.declared.keyed.TheConstants.{LEAST_WEIGHT};
-ghost use Rattle.cd_window.specs.Waiting.{waits_of, waits_with, joined_by};
+ghost use Rattle.cd_window.specs.Places.{IsAmong};
+ghost use Rattle.cd_window.specs.Waiting.{Waits, waits_of, waits_with, joined_by};
 ghost use Rattle.cd_window.specs.Lists.{waits_in, IsListed, HasNoEmpty, HasRoom};
-ghost use Rattle.cd_window.specs.Joining.{before_next, after_next, CanJoin, Meets, Joins};
+ghost use Rattle.cd_window.specs.Joining.{before_next, after_next, CanJoin, Meets, Joins, Admits};
 
+use crate::held::Held;
 use crate::key::key_of;
+use crate::places::hold_next;
 use crate::stamps::Stamp;
 use crate::waiter::Waiter;
 use crate::waiting::Waiting;
 use cd_pairing::{Keyed, LEAST_WEIGHT, Side, Windows};
 use std::alloc::{AllocError, Global};
+use std::collections::VecDeque;
 
 // What waits of an event with this stamp.
 fn waiter_of<E: Keyed>(
@@ -108,7 +112,7 @@ fn meet<E: Keyed>(
 
 // Pairs the next event with the first that agrees with it and still waits, and gives that one's position. Where there
 // is none, a query or a response waits. At an `Err` nothing has changed.
-pub(crate) fn join<E: Keyed>(
+fn join<E: Keyed>(
     windows: &Windows,
     queries: &mut Waiting,
     responses: &mut Waiting,
@@ -154,5 +158,47 @@ pub(crate) fn join<E: Keyed>(
             responses.close(windows, Side::Response, after_next(next));
             Ok(None)
         }
+    }
+}
+
+// Holds the next event, paired with the first that agrees with it and still waits, and hands it back where memory runs
+// out.
+pub(crate) fn admit<E: Keyed + Drop>(
+    windows: &Windows,
+    first: u64,
+    places: &mut VecDeque<Option<Held<E>>>,
+    queries: &mut Waiting,
+    responses: &mut Waiting,
+    event: E,
+    next: Stamp,
+) -> Result<(), E>
+    requires queries { CanJoin queries.old next.index next.clock (next.weight_sum - (E.view event).weight) }
+    requires responses { CanJoin responses.old next.index next.clock (next.weight_sum - (E.view event).weight) }
+    requires heavy { LEAST_WEIGHT ≤ (E.view event).weight }
+    requires summed { (E.view event).weight ≤ next.weight_sum }
+    requires few { next.index < 2 ^ 63 }
+    requires among { (met : Option ℕ) (qs rs : List Waits) → Joins windows.now (E.view event).side
+        (waits_with (E.view event) next.index next.clock next.weight_sum) next met
+        (waits_in queries.old) (waits_in responses.old) qs rs → IsAmong first places.old.items met }
+    ensures queries_listed { IsListed queries.new }
+    ensures queries_filled { HasNoEmpty queries.new }
+    ensures responses_listed { IsListed responses.new }
+    ensures responses_filled { HasNoEmpty responses.new }
+    ensures admitted { OnOk result (Admits E.view windows.now first event next places.old.items places.new.items
+        (waits_in queries.old) (waits_in responses.old) (waits_in queries.new) (waits_in responses.new)) }
+    ensures handed_back { IfErr result (λ e. e ≡ event) }
+    ensures unchanged { OnErr result (places.new.items ≡ places.old.items) }
+    ensures err_queries { OnErr result (waits_in queries.new ≡ waits_in queries.old) }
+    ensures err_responses { OnErr result (waits_in responses.new ≡ waits_in responses.old) }
+{
+    match places.reserve(1) {
+        Err(AllocError) => Err(event),
+        Ok(()) => match join(windows, queries, responses, &event, next) {
+            Err(AllocError) => Err(event),
+            Ok(met) => {
+                hold_next(first, places, event, next, met);
+                Ok(())
+            }
+        },
     }
 }

@@ -101,8 +101,7 @@ fn drop_list(
     requires filled { IsFilled store.old numbers.old lane (but_key key.now) }
     ensures indexed { (slots : List ℕ) → IsIndexed store.old numbers.old lane slots →
         IsIndexed store.new numbers.new lane slots }
-    ensures filled { (slots : List ℕ) → IsIndexed store.old numbers.old lane slots →
-        IsFilled store.new numbers.new lane no_key }
+    ensures filled { IsFilled store.new numbers.new lane no_key }
     ensures rest { KeepsRest store.old store.new lane }
 {
     store.drop_list(lane, list);
@@ -123,9 +122,11 @@ pub(crate) fn drop_list_of(
     ensures filled { IsFilled store.new numbers.new lane no_key }
     ensures rest { KeepsRest store.old store.new lane }
 {
-    if let Some(list) = number_of(numbers, key) {
-        if store.first(lane, list).is_none() {
-            drop_list(store, numbers, lane, key, list);
-        }
+    match number_of(numbers, key) {
+        None => {}
+        Some(list) => match store.first(lane, list) {
+            None => drop_list(store, numbers, lane, key, list),
+            Some(_) => {}
+        },
     }
 }

@@ -2,10 +2,10 @@ ghost use Rattle.std.specs.Prelude.{◌≡◌, ◌<◌, ◌≤◌, ◌+◌, ◌^
 ghost use Rattle.std.specs.Prelude.{IfOk, OnOk, OnErr, slice_get};
 ghost use Rattle.std.specs.List.{filter};
 ghost use Rattle.cd_chain.specs.Cells.{is_in};
-ghost use Rattle.cd_chain.specs.Contents.{value_at};
+ghost use Rattle.cd_chain.specs.Contents.{value_at, list_count};
 ghost use Rattle.cd_window.specs.Waiting.{waits_of, waits_still, AreRising, AllBefore, NoneBefore, agreeing, left_of, but_at};
 ghost use Rattle.cd_window.specs.Lists.{slots_in, waits_in, waits_in_slot, agrees_in_slot, earlier_slot, IsListed};
-ghost use Rattle.cd_window.specs.Lists.{HasNoEmpty, HasRoom, Removes};
+ghost use Rattle.cd_window.specs.Lists.{HasNoEmpty, HasRoom, Removes, IsFilled, no_key, but_key, number_of};
 
 use crate::key::Key;
 use crate::lists::{add_list_of, drop_list_of, first_of, number_of};
@@ -62,6 +62,18 @@ impl Waiting {
         waiter
     }
 
+    // Lets go of the event in a slot.
+    fn discard(&mut self, slot: u32)
+        requires listed { IsListed self.old }
+        requires filled { HasNoEmpty self.old }
+        requires slot { is_in slot (slots_in self.old) ≡ true }
+        ensures listed { IsListed self.new }
+        ensures filled { HasNoEmpty self.new }
+        ensures removes { Removes self.old self.new slot }
+    {
+        self.remove(slot);
+    }
+
     // The slot of the first event, where it waits no more.
     fn closed_front(&self, windows: &Windows, side: Side, now: Stamp) -> Option<u32>
         requires { IsListed self.now }
@@ -94,7 +106,7 @@ impl Waiting {
         ensures closed { waits_in self.new ≡ filter (waits_still windows.now side now) (waits_in self.old) }
     {
         'closing: while let Some(slot) = self.closed_front(windows, side, now) {
-            self.remove(slot);
+            self.discard(slot);
         }
     }
 
@@ -183,8 +195,61 @@ impl Waiting {
         ensures filled { HasNoEmpty self.new }
         ensures left { waits_in self.new ≡ but_at position (waits_in self.old) }
     {
-        if let Some(slot) = self.front_at(position) {
-            self.remove(slot);
+        match self.front_at(position) {
+            None => {}
+            Some(slot) => self.discard(slot),
+        }
+    }
+
+    // Makes a slot where none is spare.
+    fn reserve(&mut self) -> Result<(), AllocError>
+        requires listed { IsListed self.old }
+        requires filled { HasNoEmpty self.old }
+        requires few { length (waits_in self.old) + 1 < 2 ^ 31 }
+        ensures listed { IsListed self.new }
+        ensures filled { HasNoEmpty self.new }
+        ensures same { waits_in self.new ≡ waits_in self.old }
+        ensures room { OnOk result (0 < self.new.store.spare) }
+    {
+        self.store.reserve(1)
+    }
+
+    // Makes the lists of an event where they are not there.
+    fn add_lists(&mut self, waiter: &Waiter) -> Result<(), AllocError>
+        requires listed { IsListed self.old }
+        requires filled { HasNoEmpty self.old }
+        requires few { length (waits_in self.old) < 2 ^ 31 }
+        requires spare { 0 < self.old.store.spare }
+        ensures listed { IsListed self.new }
+        ensures same { waits_in self.new ≡ waits_in self.old }
+        ensures room { OnOk result (HasRoom self.new waiter.now) }
+        ensures err_filled { OnErr result (HasNoEmpty self.new) }
+    {
+        match add_list_of(self.alloc, &mut self.store, &mut self.primaries, 1, &waiter.alone) {
+            Err(AllocError) => Err(AllocError),
+            Ok(()) => self.add_exchange(waiter),
+        }
+    }
+
+    // Makes the list of an event's primary and secondary where it is not there. The list of its primary is there.
+    fn add_exchange(&mut self, waiter: &Waiter) -> Result<(), AllocError>
+        requires listed { IsListed self.old }
+        requires primaries { IsFilled self.old.store self.old.primaries 1 (but_key waiter.now.alone) }
+        requires primary { IsSome (number_of self.old.primaries waiter.now.alone) }
+        requires exchanges { IsFilled self.old.store self.old.exchanges 2 no_key }
+        requires few { list_count self.old.store 2 < 2 ^ 31 }
+        requires spare { 0 < self.old.store.spare }
+        ensures listed { IsListed self.new }
+        ensures same { waits_in self.new ≡ waits_in self.old }
+        ensures room { OnOk result (HasRoom self.new waiter.now) }
+        ensures err_filled { OnErr result (HasNoEmpty self.new) }
+    {
+        match add_list_of(self.alloc, &mut self.store, &mut self.exchanges, 2, &waiter.whole) {
+            Err(AllocError) => {
+                drop_list_of(&mut self.store, &mut self.primaries, 1, &waiter.alone);
+                Err(AllocError)
+            }
+            Ok(()) => Ok(()),
         }
     }
 
@@ -198,15 +263,10 @@ impl Waiting {
         ensures room { OnOk result (HasRoom self.new waiter.now) }
         ensures err_filled { OnErr result (HasNoEmpty self.new) }
     {
-        self.store.reserve(1)?;
-        add_list_of(self.alloc, &mut self.store, &mut self.primaries, 1, &waiter.alone)?;
-        if let Err(AllocError) =
-            add_list_of(self.alloc, &mut self.store, &mut self.exchanges, 2, &waiter.whole)
-        {
-            drop_list_of(&mut self.store, &mut self.primaries, 1, &waiter.alone);
-            return Err(AllocError);
+        match self.reserve() {
+            Err(AllocError) => Err(AllocError),
+            Ok(()) => self.add_lists(waiter),
         }
-        Ok(())
     }
 
     // Gives up the room that an event would have needed.

@@ -10,8 +10,8 @@ ghost use Rattle.cd_window.specs.History.{StandsFor, listed, events_in, weight_i
 
 use crate::Released;
 use crate::held::Held;
-use crate::joining::join;
-use crate::places::{held_at, hold_next, take_front, trim};
+use crate::joining::admit;
+use crate::places::{held_at, take_front, trim};
 use crate::released::{events_in, weight_in};
 use crate::stamps::{Stamp, is_settled};
 use crate::waiting::Waiting;
@@ -115,14 +115,17 @@ impl<E: Keyed + Drop> Window<E> {
             weight_sum: self.weight_sum + event.weight(),
         };
         let weight = event.weight();
-        if let Err(AllocError) = self.places.reserve(1) {
-            return Err(event);
+        if let Err(refused) = admit(
+            &self.windows,
+            self.first,
+            &mut self.places,
+            &mut self.queries,
+            &mut self.responses,
+            event,
+            next,
+        ) {
+            return Err(refused);
         }
-        let met = match join(&self.windows, &mut self.queries, &mut self.responses, &event, next) {
-            Ok(met) => met,
-            Err(AllocError) => return Err(event),
-        };
-        hold_next(self.first, &mut self.places, event, next, met);
         self.clock = next.clock;
         self.weight_sum = next.weight_sum;
         self.count += 1;
