@@ -231,34 +231,3 @@ push_facts view w count weight e next new K N heavy light P = elim P [
   | inl Q ↦ put_paired view w count weight e next new K N heavy light Q
   | inr Q ↦ put_alone view w count weight e next new K N heavy light Q
 ]
-
--- what fits is held
-record WasHeld {E : Type 0} (o : Option (Held E)) : Type 0 where
-  was : Held E
-  is : o ≡ Some was
-
-fits_held : {E : Type 0} (view : E → EventView) (windows : Windows) (position : ℕ) (o : Option (Held E)) (s : StampedEvent) → place_fits view windows position o s ≡ true → WasHeld o
-fits_held view windows position None s h = absurd (true≢false (sym h))
-fits_held view windows position (Some x) s h = record { was = x; is = refl }
-
--- where the next event is held and then the partner of the first that fits is noted
-pub puts_paired : {E : Type 0} (view : E → EventView) (windows : Windows) (first : ℕ) (old mid new : List (Option (Held E))) (e : E) (next : Stamp) (k : ℕ) → FirstFits view windows first old (with_stamp (view e) next) k →
-    mid ≡ old ++ Some (record { event = e; clock = next.clock; weight_sum = next.weight_sum; partner = Some (first + k) }) ∷ [] →
-    ((h : Held E) → place_at mid k ≡ Some h → new ≡ set mid k (Some (with_partner h next.index))) → Puts view windows first old e next new
-puts_paired {E} view windows first old mid new e next k F em en =
-    let x : Held E = record { event = e; clock = next.clock; weight_sum = next.weight_sum; partner = Some (first + k) } in
-    let H = fits_held view windows (first + k) (place_at old k) (with_stamp (view e) next) F.fits in
-    let there : place_at mid k ≡ Some H.was = ap (λ (xs : List (Option (Held E))). place_at xs k) em ∙ get_or_append_left old (Some x ∷ []) None k F.within ∙ H.is in
-    inl (record {
-      place = k;
-      was = H.was;
-      fits = F;
-      there = H.is;
-      left = en H.was there ∙ ap (λ (xs : List (Option (Held E))). set xs k (Some (with_partner H.was next.index))) em ∙ set-append_left old (Some x ∷ []) k (Some (with_partner H.was next.index)) F.within;
-    })
-
--- what fits is held in the longer list too
-pub fits_there : {E : Type 0} (view : E → EventView) (windows : Windows) (first : ℕ) (old mid : List (Option (Held E))) (next : StampedEvent) (k : ℕ) (x : Held E) → FirstFits view windows first old next k → mid ≡ old ++ Some x ∷ [] → is_some (place_at mid k) ≡ true
-fits_there {E} view windows first old mid next k x F em =
-    let H = fits_held view windows (first + k) (place_at old k) next F.fits in
-    ap (λ (xs : List (Option (Held E))). is_some (place_at xs k)) em ∙ ap is_some (get_or_append_left old (Some x ∷ []) None k F.within ∙ H.is)

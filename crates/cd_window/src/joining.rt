@@ -102,11 +102,13 @@ fn meet<E: Keyed>(
 {
     let waiter = waiter_of(own.alloc, event, next)?;
     own.make_room(&waiter)?;
-    others.close(windows, other, before_next(next));
+    let before = before_next(next);
+    others.close(windows, other, before);
     let met = others.take_agreeing(&waiter);
     wait_unless_met(own, waiter, met);
-    own.close(windows, side, after_next(next));
-    others.close(windows, other, after_next(next));
+    let after = after_next(next);
+    own.close(windows, side, after);
+    others.close(windows, other, after);
     Ok(met)
 }
 
@@ -154,8 +156,9 @@ fn join<E: Keyed>(
             next,
         ),
         Side::Neither => {
-            queries.close(windows, Side::Query, after_next(next));
-            responses.close(windows, Side::Response, after_next(next));
+            let after = after_next(next);
+            queries.close(windows, Side::Query, after);
+            responses.close(windows, Side::Response, after);
             Ok(None)
         }
     }
