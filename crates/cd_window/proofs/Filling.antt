@@ -55,9 +55,9 @@ module _ {K : Type 0} (number : K → Option ℕ) (list : ℕ → Option (List �
           | inl q ↦ nil_push xs s (rw q at nil)
           | inr q ↦
               let ne : eq key k ≡ false = false_from_ne_true (eq key k) (λ t.
-                let same : Some n ≡ Some j = sym e0 ∙ Q.numbers key k t ∙ e in
-                let nj : n ≡ j = cc in
-                true≢false (sym (eq-eqb j n (sym nj)) ∙ q)) in
+              let same : Some n ≡ Some j = sym e0 ∙ Q.numbers key k t ∙ e in
+              let nj : n ≡ j = cc in
+              true≢false (sym (eq-eqb j n (sym nj)) ∙ q)) in
               let none : xs ≡ [] = rw q at nil in
               F.each k j e ne (was ∙ ap (λ (ys : List ℕ). Some ys) none)
         ];
@@ -121,14 +121,14 @@ count_lists (Some xs ∷ ls) slots d some apart =
     let rest : List ℕ = without s0 slots in
     let long = length_without s0 slots d f.1 in
     let a = count_lists ls rest (distinct_without s0 slots d)
-        (λ j h.
-            let g = some (suc j) h in
-            let ne : eqb s0 g.0 ≡ false = false_from_ne_true (eqb s0 g.0) (λ t.
-              let same : s0 ≡ g.0 = eqb-true s0 g.0 t in
-              let e : 0 ≡ suc j = apart 0 (suc j) s0 f.2 (subst (InList (get_or ls j None)) (sym same) g.2) in
-              omega arith) in
-            (g.0, still_in s0 g.0 slots ne g.1, g.2))
-        (λ i j s x y. let e = apart (suc i) (suc j) s x y in omega arith) in
+    (λ j h.
+    let g = some (suc j) h in
+    let ne : eqb s0 g.0 ≡ false = false_from_ne_true (eqb s0 g.0) (λ t.
+    let same : s0 ≡ g.0 = eqb-true s0 g.0 t in
+    let e : 0 ≡ suc j = apart 0 (suc j) s0 f.2 (subst (InList (get_or ls j None)) (sym same) g.2) in
+    omega arith) in
+    (g.0, still_in s0 g.0 slots ne g.1, g.2))
+    (λ i j s x y. let e = apart (suc i) (suc j) s x y in omega arith) in
     let q : count_by (λ (o : Option (List ℕ)). is_some o) (Some xs ∷ ls) ≡ 1 + count_by (λ (o : Option (List ℕ)). is_some o) ls = sum_by-cons (λ (o : Option (List ℕ)). cond (is_some o) 1 0) (Some xs) ls in
     omega arith
 
@@ -141,18 +141,18 @@ pub few_lists : {K : Type 0} (number : K → Option ℕ) (lists : List (Option (
     count_by (λ (o : Option (List ℕ)). is_some o) lists ≤ length slots
 few_lists {K} number lists has eq slots Q d A F = count_lists lists slots d
     (λ j h.
-        let n = A.named j h in
-        let was = A.lists n.0 j n.1 in
-        let s = first_of_some (filter (has n.0) slots) (λ e. F.each n.0 j n.1 refl (was ∙ ap (λ (ys : List ℕ). Some ys) e)) in
-        (s.0, (was_in (has n.0) slots s.0 s.1).0, subst (λ (o : Option (List ℕ)). InList o s.0) (sym was) s.1))
+    let n = A.named j h in
+    let was = A.lists n.0 j n.1 in
+    let s = first_of_some (filter (has n.0) slots) (λ e. F.each n.0 j n.1 refl (was ∙ ap (λ (ys : List ℕ). Some ys) e)) in
+    (s.0, (was_in (has n.0) slots s.0 s.1).0, subst (λ (o : Option (List ℕ)). InList o s.0) (sym was) s.1))
     (λ i j s x y.
-        let n = A.named i (is_there (get_or lists i None) s x) in
-        let m = A.named j (is_there (get_or lists j None) s y) in
-        let u : is_in s (filter (has n.0) slots) ≡ true = subst (λ (o : Option (List ℕ)). InList o s) (A.lists n.0 i n.1) x in
-        let v : is_in s (filter (has m.0) slots) ≡ true = subst (λ (o : Option (List ℕ)). InList o s) (A.lists m.0 j m.1) y in
-        let same = Q.one n.0 m.0 s (was_in (has n.0) slots s u).1 (was_in (has m.0) slots s v).1 in
-        let both : Some i ≡ Some j = sym n.1 ∙ Q.numbers n.0 m.0 same ∙ m.1 in
-        cc)
+    let n = A.named i (is_there (get_or lists i None) s x) in
+    let m = A.named j (is_there (get_or lists j None) s y) in
+    let u : is_in s (filter (has n.0) slots) ≡ true = subst (λ (o : Option (List ℕ)). InList o s) (A.lists n.0 i n.1) x in
+    let v : is_in s (filter (has m.0) slots) ≡ true = subst (λ (o : Option (List ℕ)). InList o s) (A.lists m.0 j m.1) y in
+    let same = Q.one n.0 m.0 s (was_in (has n.0) slots s u).1 (was_in (has m.0) slots s v).1 in
+    let both : Some i ≡ Some j = sym n.1 ∙ Q.numbers n.0 m.0 same ∙ m.1 in
+    cc)
   where
     is_there : (o : Option (List ℕ)) (s : ℕ) → InList o s → IsSome o
     is_there None s h = absurd h

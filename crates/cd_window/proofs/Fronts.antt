@@ -61,17 +61,17 @@ pop_waits {E} view w count weight r mid new gone side K P T = elim P [
       let paired : Q.other.partner ≡ Some (w.first + 0) = ap (λ (y : Held E). y.partner) (sym same_other) ∙ mate.back in
       waits_filter view (λ x. not (eqb x.index w.first)) (is_waiting view w side) w.first w.held
       ∙ waits_same view (λ j h. is_waiting view w side j h && not (eqb j w.first)) (λ j h. is_waiting view w side j h && not (eqb j w.first) && not (eqb j i)) w.first w.held
-          (λ k j h q at. elim (cases_eq k Q.place) [
-            | inl z ↦
-                let f : Some h ≡ Some Q.other = sym at ∙ ap (place_at w.held) z ∙ Q.there in
-                let same : h ≡ Q.other = cc in
-                let p : h.partner ≡ Some (w.first + 0) = ap (λ (y : Held E). y.partner) same ∙ paired in
-                let out : is_waiting view w side j h ≡ false =
-                ap (λ (o : Option ℕ). same_side (view h.event).side side && (is_none o && waits_after w.windows (count_of w) w.clock w.weight_sum (stamped view j h))) p
-                ∙ and_false (same_side (view h.event).side side) in
-                rw out refl
-            | inr z ↦ and_other (is_waiting view w side j h && not (eqb j w.first)) j i (λ s. z (omega arith))
-          ])
+      (λ k j h q at. elim (cases_eq k Q.place) [
+        | inl z ↦
+            let f : Some h ≡ Some Q.other = sym at ∙ ap (place_at w.held) z ∙ Q.there in
+            let same : h ≡ Q.other = cc in
+            let p : h.partner ≡ Some (w.first + 0) = ap (λ (y : Held E). y.partner) same ∙ paired in
+            let out : is_waiting view w side j h ≡ false =
+            ap (λ (o : Option ℕ). same_side (view h.event).side side && (is_none o && waits_after w.windows (count_of w) w.clock w.weight_sum (stamped view j h))) p
+            ∙ and_false (same_side (view h.event).side side) in
+            rw out refl
+        | inr z ↦ and_other (is_waiting view w side j h && not (eqb j w.first)) j i (λ s. z (omega arith))
+      ])
       ∙ sym (waits_set view (λ j h. is_waiting view w side j h && not (eqb j w.first)) w.first Q.place i w.held None refl (λ h q. absurd (none-some h q)))
       ∙ sym (left_picked view (is_waiting view w side) w.first gone rest mid new Q.left T)
       ∙ sym (same_count view w gone new side (counted lm))

@@ -129,9 +129,9 @@ module _ {K : Type 0} (number : K → Option ℕ) (list : ℕ → Option (List �
       | inr q ↦
           let old = A.named j (subst (λ (o : Option (List ℕ)). IsSome o) (there j q) h) in
           let ne : eq key old.0 ≡ false = false_from_ne_true (eq key old.0) (λ t.
-            let both : Some n ≡ Some j = sym e0 ∙ Q.numbers key old.0 t ∙ old.1 in
-            let same : n ≡ j = cc in
-            true≢false (sym (eq-eqb j n (sym same)) ∙ q)) in
+          let both : Some n ≡ Some j = sym e0 ∙ Q.numbers key old.0 t ∙ old.1 in
+          let same : n ≡ j = cc in
+          true≢false (sym (eq-eqb j n (sym same)) ∙ q)) in
           (old.0, other old.0 ne ∙ old.1)
     ];
   }

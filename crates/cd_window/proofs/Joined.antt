@@ -54,7 +54,7 @@ narrow {E} view windows a b side j h hi hc hs = by (same_side (view h.event).sid
         let told : (view h.event).side ≡ side = side_is (view h.event).side side (sym q) in
         ap (λ (t : Side). is_none h.partner && waits_after windows a.index a.clock a.weight_sum (stamped view j h) && waits_still windows t b (waits_at view j h)) (sym told)
         ∙ narrow_is (is_none h.partner) (waits_after windows a.index a.clock a.weight_sum (stamped view j h)) (waits_after windows b.index b.clock b.weight_sum (stamped view j h))
-            (λ o. still_sooner windows (view h.event).side a b (waits_at view j h) hi hc hs o)
+        (λ o. still_sooner windows (view h.event).side a b (waits_at view j h) hi hc hs o)
     by false q = refl
 
 filter_narrow : {E : Type 0} (view : E → EventView) (windows : Windows) (a b : Stamp) (side : Side) (i : ℕ) (hs : List (Option (Held E))) → a.index ≤ b.index → a.clock ≤ b.clock → a.weight_sum ≤ b.weight_sum →
@@ -76,7 +76,7 @@ filter_narrow_but {E} view windows a b side i n hs hi hc hs' =
     ap (filter (waits_still windows side b)) (waits_filter view (λ x. not (eqb x.index n)) (waits_by view windows a side) i hs)
     ∙ waits_filter view (waits_still windows side b) (λ j h. waits_by view windows a side j h && not (eqb j n)) i hs
     ∙ waits_same view (λ j h. waits_by view windows a side j h && not (eqb j n) && waits_still windows side b (waits_at view j h)) (λ j h. waits_by view windows b side j h && not (eqb j n)) i hs
-        (λ k j h e at. swap_and (waits_by view windows a side j h) (waits_still windows side b (waits_at view j h)) (not (eqb j n)) ∙ ap (λ (t : Bool). t && not (eqb j n)) (narrow view windows a b side j h hi hc hs'))
+    (λ k j h e at. swap_and (waits_by view windows a side j h) (waits_still windows side b (waits_at view j h)) (not (eqb j n)) ∙ ap (λ (t : Bool). t && not (eqb j n)) (narrow view windows a b side j h hi hc hs'))
 
 -- a filter that is wider changes nothing
 filter_wider : (p q : Waits → Bool) → ((x : Waits) → p x ≡ true → q x ≡ true) → (xs : List Waits) → filter p (filter q xs) ≡ filter p xs
@@ -153,7 +153,7 @@ module _ {E : Type 0} (view : E → EventView) (w : Seen E) (e : E) (next : Stam
   alone_waits =
       waits_push view (waits_by view w.windows (after_next next) side) w.first (count_of w) w.held (next_as e next None) refl
       ∙ ap (λ (xs : List Waits). xs ++ cond (waits_by view w.windows (after_next next) side (count_of w) (next_as e next None)) (waits_at view (count_of w) (next_as e next None) ∷ []) [])
-          (sym (filter_narrow view w.windows (now_of w) (after_next next) side w.first w.held later later_clock later_sum))
+      (sym (filter_narrow view w.windows (now_of w) (after_next next) side w.first w.held later later_clock later_sum))
 
   -- with the next event held with its partner
   paired_waits : (place : ℕ) (was : Held E) → place_at w.held place ≡ Some was →
@@ -164,10 +164,10 @@ module _ {E : Type 0} (view : E → EventView) (w : Seen E) (e : E) (next : Stam
       ∙ ap (λ (b : Bool). waits_from view (waits_by view w.windows (after_next next) side) w.first (set w.held place (Some (with_partner was next.index))) ++ cond b (waits_at view (w.first + length (set w.held place (Some (with_partner was next.index)))) (next_as e next (Some (w.first + place))) ∷ []) []) (and_false (same_side (view e).side side))
       ∙ append-nil (waits_from view (waits_by view w.windows (after_next next) side) w.first (set w.held place (Some (with_partner was next.index))))
       ∙ waits_set view (waits_by view w.windows (after_next next) side) w.first place (w.first + place) w.held (Some (with_partner was next.index)) refl
-          (λ h q. let same : with_partner was next.index ≡ h = cc in
-            let p : h.partner ≡ Some next.index = ap (λ (y : Held E). y.partner) (sym same) in
-            ap (λ (o : Option ℕ). same_side (view h.event).side side && (is_none o && waits_after w.windows (after_next next).index (after_next next).clock (after_next next).weight_sum (stamped view (w.first + place) h))) p
-            ∙ and_false (same_side (view h.event).side side))
+      (λ h q. let same : with_partner was next.index ≡ h = cc in
+      let p : h.partner ≡ Some next.index = ap (λ (y : Held E). y.partner) (sym same) in
+      ap (λ (o : Option ℕ). same_side (view h.event).side side && (is_none o && waits_after w.windows (after_next next).index (after_next next).clock (after_next next).weight_sum (stamped view (w.first + place) h))) p
+      ∙ and_false (same_side (view h.event).side side))
 
 -- the side of the next event, once it is held
 pub own_waits : {E : Type 0} (view : E → EventView) (w : Seen E) (e : E) (next : Stamp) (met : Option ℕ) (new : List (Option (Held E))) → IsNext view w e next → w.first + length new ≡ next.index + 1 → Found view w e next met → HoldsNext w.first w.held e next met new → same_side (view e).side (view e).side ≡ true →
@@ -182,14 +182,14 @@ own_waits {E} view w e next met new N count F H own = elim F [
       ap (λ (o : Option ℕ). filter (waits_still w.windows (view e).side (after_next next)) (joined_by o (waits_with (view e) next.index next.clock next.weight_sum) (waiting view w (view e).side))) A.is
       ∙ filter_narrow view w.windows (now_of w) (after_next next) (view e).side w.first w.held (later view w e next N (view e).side) (later_clock view w e next N (view e).side) (later_sum view w e next N (view e).side)
       ∙ waits_same view T (λ j h. T j h && not (eqb j i)) w.first w.held
-          (λ k j h q at. elim (cases_eq k A.place) [
-            | inl z ↦
-                let f : Some h ≡ Some A.was = sym at ∙ ap (place_at w.held) z ∙ A.there in
-                let same : h ≡ A.was = cc in
-                let no_side : same_side (view h.event).side (view e).side ≡ false = ap (λ (y : Held E). same_side (view y.event).side (view e).side) same ∙ out in
-                rw no_side refl
-            | inr z ↦ and_other (T j h) j i (λ s. z (omega arith))
-          ])
+      (λ k j h q at. elim (cases_eq k A.place) [
+        | inl z ↦
+            let f : Some h ≡ Some A.was = sym at ∙ ap (place_at w.held) z ∙ A.there in
+            let same : h ≡ A.was = cc in
+            let no_side : same_side (view h.event).side (view e).side ≡ false = ap (λ (y : Held E). same_side (view y.event).side (view e).side) same ∙ out in
+            rw no_side refl
+        | inr z ↦ and_other (T j h) j i (λ s. z (omega arith))
+      ])
       ∙ sym (paired_waits view w e next N (view e).side A.place A.was A.there)
       ∙ ap (waits_from view T w.first) (sym held_is)
       ∙ sym grown_is
@@ -261,7 +261,7 @@ joins_wait {E} view w e next met new queries responses N count F H J = by (view 
           queries_are = M.own_left ∙ subst (λ (s : Side). filter (waits_still w.windows s (after_next next)) (joined_by met (waits_with (view e) next.index next.clock next.weight_sum) (waiting view w s)) ≡ waiting view (grown w next new) s) (sym q)
               (own_waits view w e next met new N count F H (ap (λ (s : Side). same_side s s) (sym q)));
           responses_are = M.others_left ∙ left_wider (waits_still w.windows Response (after_next next)) (waits_still w.windows Response (before_next next)) (after_before w.windows Response next) met (waiting view w Response)
-          ∙ other_waits view w e next met new Response N count F H (ap (λ (s : Side). same_side s Response) (sym q));
+              ∙ other_waits view w e next met new Response N count F H (ap (λ (s : Side). same_side s Response) (sym q));
         }
     by Response q =
         let M : Meets w.windows Response Query (waits_with (view e) next.index next.clock next.weight_sum) next met (waiting view w Response) (waiting view w Query) responses queries =
@@ -270,13 +270,13 @@ joins_wait {E} view w e next met new queries responses N count F H J = by (view 
           responses_are = M.own_left ∙ subst (λ (s : Side). filter (waits_still w.windows s (after_next next)) (joined_by met (waits_with (view e) next.index next.clock next.weight_sum) (waiting view w s)) ≡ waiting view (grown w next new) s) (sym q)
               (own_waits view w e next met new N count F H (ap (λ (s : Side). same_side s s) (sym q)));
           queries_are = M.others_left ∙ left_wider (waits_still w.windows Query (after_next next)) (waits_still w.windows Query (before_next next)) (after_before w.windows Query next) met (waiting view w Query)
-          ∙ other_waits view w e next met new Query N count F H (ap (λ (s : Side). same_side s Query) (sym q));
+              ∙ other_waits view w e next met new Query N count F H (ap (λ (s : Side). same_side s Query) (sym q));
         }
     by Neither q =
         let M = subst (λ (s : Side). Joins w.windows s (waits_with (view e) next.index next.clock next.weight_sum) next met (waiting view w Query) (waiting view w Response) queries responses) (sym q) J in
         record {
           queries_are = M.1 ∙ ap (λ (o : Option ℕ). filter (waits_still w.windows Query (after_next next)) (left_of o (waiting view w Query))) (sym M.0)
-          ∙ other_waits view w e next met new Query N count F H (ap (λ (s : Side). same_side s Query) (sym q));
+              ∙ other_waits view w e next met new Query N count F H (ap (λ (s : Side). same_side s Query) (sym q));
           responses_are = M.2 ∙ ap (λ (o : Option ℕ). filter (waits_still w.windows Response (after_next next)) (left_of o (waiting view w Response))) (sym M.0)
-          ∙ other_waits view w e next met new Response N count F H (ap (λ (s : Side). same_side s Response) (sym q));
+              ∙ other_waits view w e next met new Response N count F H (ap (λ (s : Side). same_side s Response) (sym q));
         }

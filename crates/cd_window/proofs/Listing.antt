@@ -201,8 +201,8 @@ put_waits x x' w slot primary exchange ea L P E FP FE np ne ep ee V l0 l1 l2 =
         exchanges = filled_with (number_of x'.exchanges) (list_at x.store 2) (has_key x.store 2) same_key (keys_are x'.exchanges x.store 2) (slots_in x) slot b.0 w.whole (list_at x'.store 2) E b.1 c2 FE;
       };
       waits = ap (map (waits_in_slot x'.store)) es ∙ map_push (waits_in_slot x'.store) (slots_in x) slot
-      ∙ ap (λ (ys : List Waits). ys ++ waits_in_slot x'.store slot ∷ []) (map_same_in (waits_in_slot x.store) (waits_in_slot x'.store) (slots_in x) (λ s i. ap shown (others s (far s i))))
-      ∙ ap (λ (o : Option Waiter). waits_in x ++ shown o ∷ []) here;
+          ∙ ap (λ (ys : List Waits). ys ++ waits_in_slot x'.store slot ∷ []) (map_same_in (waits_in_slot x.store) (waits_in_slot x'.store) (slots_in x) (λ s i. ap shown (others s (far s i))))
+          ∙ ap (λ (o : Option Waiter). waits_in x ++ shown o ∷ []) here;
     }
 
 -- the first event is gone
@@ -218,7 +218,7 @@ front_gone x x' slot d R e = by (slots_in x) refl e
         let rest : without slot (y ∷ ys) ≡ ys = rw (eq-eqb slot y (sym same)) (without_none slot ys out) in
         let es : slots_in x' ≡ ys = R.slots ∙ ap (without slot) (sym q) ∙ rest in
         let kept : map (waits_in_slot x'.store) ys ≡ map (waits_in_slot x.store) ys = map_same_in (waits_in_slot x.store) (waits_in_slot x'.store) ys
-            (λ s i. ap shown (R.others s (λ z. true≢false (sym i ∙ ap (λ (t : ℕ). is_in t ys) z ∙ out)))) in
+        (λ s i. ap shown (R.others s (λ z. true≢false (sym i ∙ ap (λ (t : ℕ). is_in t ys) z ∙ out)))) in
         ap (map (waits_in_slot x.store)) (sym q)
         ∙ ap (λ (s : ℕ). waits_in_slot x.store s ∷ map (waits_in_slot x.store) ys) same
         ∙ ap (λ (ws : List Waits). waits_in_slot x.store slot ∷ ws) (sym kept ∙ ap (map (waits_in_slot x'.store)) (sym es))

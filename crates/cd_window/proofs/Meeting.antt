@@ -45,8 +45,8 @@ module _ (v : EventView) (next : Stamp) (summed : v.weight ≤ next.weight_sum) 
   own_before x at own own' ex ea e b = subst (λ (t : Stamp). AllBefore t.index t.clock t.weight_sum own') (sym ea)
       (subst (AllBefore (next.index + 1) next.clock next.weight_sum) (sym (e ∙ ap (λ (y : Waits). joined_by met y own) ex))
       (joined_before met (waits_with v next.index next.clock next.weight_sum) (next.index + 1) next.clock next.weight_sum own
-          (before_later next.index next.clock (next.weight_sum - v.weight) (next.index + 1) next.clock next.weight_sum own (omega arith) (omega arith) (omega arith) b)
-          (record { position = omega arith; time = omega arith; sum = omega arith })))
+      (before_later next.index next.clock (next.weight_sum - v.weight) (next.index + 1) next.clock next.weight_sum own (omega arith) (omega arith) (omega arith) b)
+      (record { position = omega arith; time = omega arith; sum = omega arith })))
 
   -- the other side, without the event that is met
   pub others_rising : (p : Waits → Bool) (others closed left : List Waits) → closed ≡ filter p others → left ≡ left_of met closed → AreRising others → AreRising left

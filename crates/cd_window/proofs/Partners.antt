@@ -50,7 +50,6 @@ still_sooner windows side a b x hi hc hs h =
       light = let g : a.weight_sum - x.weight_sum + x.weight + LEAST_WEIGHT ≤ windows.bytes = omega arith in g;
     })
 
-
 -- two tests that imply each other are the same
 same_test : (a b : Bool) → (a ≡ true → b ≡ true) → (b ≡ true → a ≡ true) → a ≡ b
 same_test true b f g = sym (f refl)
@@ -62,17 +61,17 @@ window_is : (windows : Windows) (a b : StampedEvent) (next : Stamp) → b.index 
     waits_after windows next.index next.clock (next.weight_sum - LEAST_WEIGHT) a ≡ is_in_window windows a b
 window_is windows a b next ei ec es le = same_test (waits_after windows next.index next.clock (next.weight_sum - LEAST_WEIGHT) a) (is_in_window windows a b)
     (λ h.
-        let W = open_parts windows next.index next.clock (next.weight_sum - LEAST_WEIGHT) a h in
-        let near = W.near in
-        let time = W.time in
-        let light = W.light in
-        in_window_from windows a b (omega arith) (omega arith) (omega arith))
+    let W = open_parts windows next.index next.clock (next.weight_sum - LEAST_WEIGHT) a h in
+    let near = W.near in
+    let time = W.time in
+    let light = W.light in
+    in_window_from windows a b (omega arith) (omega arith) (omega arith))
     (λ h.
-        let T = in_window_parts windows a b h in
-        let near = T.near in
-        let time = T.time in
-        let light = T.light in
-        open_from windows next.index next.clock (next.weight_sum - LEAST_WEIGHT) a (record { near = omega arith; time = omega arith; light = omega arith }))
+    let T = in_window_parts windows a b h in
+    let near = T.near in
+    let time = T.time in
+    let light = T.light in
+    open_from windows next.index next.clock (next.weight_sum - LEAST_WEIGHT) a (record { near = omega arith; time = omega arith; light = omega arith }))
 
 -- the side that an event of this side is paired with
 pub opposite_query : (a : Side) → same_side a Response ≡ are_opposite a Query
@@ -150,7 +149,7 @@ fits_same {E} view w e next N heavy other j h opp le = by (same_side (view h.eve
         ap (λ (t : Side). waits_still w.windows t (before_next next) (waits_at view j h)) (sym told) ∙ own in
         ap (λ (b : Bool). is_waiting view w other j h && b && identifiers_agree (view h.event) (view e)) still
         ∙ fits_is (same_side (view h.event).side other) (is_none h.partner) (waits_after w.windows (count_of w) w.clock w.weight_sum (stamped view j h)) (is_in_window w.windows (stamped view j h) (with_stamp (view e) next)) (identifiers_agree (view h.event) (view e))
-            (λ b. open_before view w e next N heavy (view h.event).side (waits_at view j h) (own ∙ b))
+        (λ b. open_before view w e next N heavy (view h.event).side (waits_at view j h) (own ∙ b))
         ∙ ap (λ (b : Bool). is_none h.partner && (b && identifiers_agree (view h.event) (view e) && is_in_window w.windows (stamped view j h) (with_stamp (view e) next))) opp
         ∙ sym (fits_parts view w.windows e next j h)
     by false q =
@@ -193,7 +192,7 @@ finds {E} view w e next N heavy R other opp met em = by (slice_get (waits_from v
     picked = ap (filter (agrees_with (waits_with (view e) next.index next.clock next.weight_sum))) (waits_filter view (waits_still w.windows other (before_next next)) (is_waiting view w other) w.first w.held)
         ∙ waits_filter view (agrees_with (waits_with (view e) next.index next.clock next.weight_sum)) (λ j h. is_waiting view w other j h && waits_still w.windows other (before_next next) (waits_at view j h)) w.first w.held
         ∙ waits_same view (λ j h. is_waiting view w other j h && waits_still w.windows other (before_next next) (waits_at view j h) && agrees_with (waits_with (view e) next.index next.clock next.weight_sum) (waits_at view j h)) (fits view w.windows e next) w.first w.held
-            (λ k j h q at. fits_same view w e next N heavy other j h (opp (view h.event).side) (stands view 0 0 w.held k h w.clock w.weight_sum at R).last_sum)
+        (λ k j h q at. fits_same view w e next N heavy other j h (opp (view h.event).side) (stands view 0 0 w.held k h w.clock w.weight_sum at R).last_sum)
 
     met_is : met ≡ option_map (λ x. x.index) (slice_get (waits_from view (fits view w.windows e next) w.first w.held) 0)
     met_is = em ∙ ap (λ (xs : List Waits). option_map (λ x. x.index) (slice_get xs 0)) picked
@@ -224,10 +223,10 @@ finds_none {E} view w e next met side em = inr (record {
   none = record {
     none = λ k lt. no_place view w.windows e next (w.first + k) (place_at w.held k)
         (λ h at.
-            let opp : are_opposite (view h.event).side (view e).side ≡ false = ap (are_opposite (view h.event).side) side ∙ opposite_neither (view h.event).side in
-            fits_parts view w.windows e next (w.first + k) h
-            ∙ ap (λ (b : Bool). is_none h.partner && (b && identifiers_agree (view h.event) (view e) && is_in_window w.windows (stamped view (w.first + k) h) (with_stamp (view e) next))) opp
-            ∙ and_false (is_none h.partner));
+        let opp : are_opposite (view h.event).side (view e).side ≡ false = ap (are_opposite (view h.event).side) side ∙ opposite_neither (view h.event).side in
+        fits_parts view w.windows e next (w.first + k) h
+        ∙ ap (λ (b : Bool). is_none h.partner && (b && identifiers_agree (view h.event) (view e) && is_in_window w.windows (stamped view (w.first + k) h) (with_stamp (view e) next))) opp
+        ∙ and_false (is_none h.partner));
   };
 })
 

@@ -132,9 +132,9 @@ gone_waits f g s (t ∷ ts) i r h = elim (cases_Bool (eqb s t)) [
   | inl e ↦
       let same : s ≡ t = eqb-true s t e in
       let out : is_in s ts ≡ false = false_from_ne_true (is_in s ts) (λ j.
-        let a = in_rises f (f t) ts s r.0 j in
-        let b : (f t).index ≡ (f s).index = ap (λ (u : ℕ). (f u).index) (sym same) in
-        omega arith) in
+      let a = in_rises f (f t) ts s r.0 j in
+      let b : (f t).index ≡ (f s).index = ap (λ (u : ℕ). (f u).index) (sym same) in
+      omega arith) in
       let kept : map g ts ≡ map f ts = others ts out in
       let b : (f t).index ≡ (f s).index = ap (λ (u : ℕ). (f u).index) (sym same) in
       rw e (ap (map g) (without_none s ts out) ∙ kept ∙ sym (but_front (f s).index (f t) (map f ts) r b))

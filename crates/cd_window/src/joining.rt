@@ -16,11 +16,7 @@ use std::alloc::{AllocError, Global};
 use std::collections::VecDeque;
 
 // What waits of an event with this stamp.
-fn waiter_of<E: Keyed>(
-    alloc: Global,
-    event: &E,
-    stamp: Stamp,
-) -> Result<Waiter, AllocError>
+fn waiter_of<E: Keyed>(alloc: Global, event: &E, stamp: Stamp) -> Result<Waiter, AllocError>
     ensures { IfOk result (λ w. waits_of w ≡
         waits_with (E.view event.now) stamp.index stamp.clock stamp.weight_sum) }
 {

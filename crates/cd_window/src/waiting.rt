@@ -225,7 +225,13 @@ impl Waiting {
         ensures room { OnOk result (HasRoom self.new waiter.now) }
         ensures err_filled { OnErr result (HasNoEmpty self.new) }
     {
-        match add_list_of(self.alloc, &mut self.store, &mut self.primaries, 1, &waiter.alone) {
+        match add_list_of(
+            self.alloc,
+            &mut self.store,
+            &mut self.primaries,
+            1,
+            &waiter.alone,
+        ) {
             Err(AllocError) => Err(AllocError),
             Ok(()) => self.add_exchange(waiter),
         }
@@ -244,7 +250,13 @@ impl Waiting {
         ensures room { OnOk result (HasRoom self.new waiter.now) }
         ensures err_filled { OnErr result (HasNoEmpty self.new) }
     {
-        match add_list_of(self.alloc, &mut self.store, &mut self.exchanges, 2, &waiter.whole) {
+        match add_list_of(
+            self.alloc,
+            &mut self.store,
+            &mut self.exchanges,
+            2,
+            &waiter.whole,
+        ) {
             Err(AllocError) => {
                 drop_list_of(&mut self.store, &mut self.primaries, 1, &waiter.alone);
                 Err(AllocError)
@@ -291,6 +303,7 @@ impl Waiting {
     {
         let primary = number_of(&self.primaries, &waiter.alone);
         let exchange = number_of(&self.exchanges, &waiter.whole);
-        self.store.put_reserved(waiter, [Some(self.all), primary, exchange]);
+        self.store
+            .put_reserved(waiter, [Some(self.all), primary, exchange]);
     }
 }

@@ -24,8 +24,8 @@ returns-in-Ok-clause-rest c = adds_rest c.args.store.now c.add_list.new.self c.a
 pub returns-in-Err-clause-indexed : goal.returns-in-Err-clause-indexed
 returns-in-Err-clause-indexed c = λ slots A. undone_indexed c.args.numbers.now c.insert.new.self c.args.store.now c.add_list.new.self c.drop_list.new.self c.args.lane c.in_ok-list.list c.in-Err.ensures.err c.in_ok-list.ensures.ok c.drop_list.ensures.lists slots
     (rest_twice c.args.store.now c.add_list.new.self c.drop_list.new.self c.args.lane
-      (adds_rest c.args.store.now c.add_list.new.self c.args.lane c.in_ok-list.list c.in_ok-list.ensures.ok c.add_list.ensures.values c.add_list.ensures.spare)
-      (drops_rest c.add_list.new.self c.drop_list.new.self c.args.lane c.in_ok-list.list c.drop_list.ensures.lists c.drop_list.ensures.values c.drop_list.ensures.spare)) A
+    (adds_rest c.args.store.now c.add_list.new.self c.args.lane c.in_ok-list.list c.in_ok-list.ensures.ok c.add_list.ensures.values c.add_list.ensures.spare)
+    (drops_rest c.add_list.new.self c.drop_list.new.self c.args.lane c.in_ok-list.list c.drop_list.ensures.lists c.drop_list.ensures.values c.drop_list.ensures.spare)) A
 
 pub returns-in-Err-clause-err_filled : goal.returns-in-Err-clause-err_filled
 returns-in-Err-clause-err_filled c = undone_filled c.args.numbers.now c.insert.new.self c.args.store.now c.add_list.new.self c.drop_list.new.self c.args.lane c.in_ok-list.list c.in-Err.ensures.err c.in_ok-list.ensures.ok c.drop_list.ensures.lists c.requires.filled

@@ -10,8 +10,10 @@ pub drop_list_of-requires-clause-slots : goal.drop_list_of-requires-clause-slots
 drop_list_of-requires-clause-slots c = (slots_in c.args.self.now, c.requires.listed.primaries)
 
 pub drop_list_of-requires-2-clause-slots : goal.drop_list_of-requires-2-clause-slots
-drop_list_of-requires-2-clause-slots c = (slots_in c.args.self.now,
-    indexed_rest c.args.self.now.exchanges c.args.self.now.store c.drop_list_of.new.store 1 2 (slots_in c.args.self.now) c.drop_list_of.ensures.rest (λ z. omega arith) c.requires.listed.exchanges)
+drop_list_of-requires-2-clause-slots c = (
+  slots_in c.args.self.now,
+  indexed_rest c.args.self.now.exchanges c.args.self.now.store c.drop_list_of.new.store 1 2 (slots_in c.args.self.now) c.drop_list_of.ensures.rest (λ z. omega arith) c.requires.listed.exchanges,
+)
 
 pub drop_list_of-requires-2-clause-filled : goal.drop_list_of-requires-2-clause-filled
 drop_list_of-requires-2-clause-filled c = filled_rest c.args.self.now.exchanges c.args.self.now.store c.drop_list_of.new.store 1 2 (but_key c.args.waiter.now.whole) c.drop_list_of.ensures.rest (λ z. omega arith) c.requires.room.exchanges

@@ -35,8 +35,8 @@ returns-clause-listed c =
     let x' : Waiting = record c.args.self.now { store = c.drop_list_of-2.new.store; primaries = c.drop_list_of.new.numbers; exchanges = c.drop_list_of-2.new.numbers } in
     let left = without c.args.slot (slots_in c.args.self.now) in
     let T = taken c.args.self.now x' c.remove-waiter.new.self c.drop_list_of.new.store c.args.slot c.remove-waiter.result refl c.requires.listed c.requires.slot E c.drop_list_of.ensures.rest c.drop_list_of-2.ensures.rest
-        (c.drop_list_of.ensures.indexed left E.primaries)
-        (c.drop_list_of-2.ensures.indexed left (indexed_rest c.args.self.now.exchanges c.remove-waiter.new.self c.drop_list_of.new.store 1 2 left c.drop_list_of.ensures.rest (λ z. omega arith) E.exchanges)) in
+    (c.drop_list_of.ensures.indexed left E.primaries)
+    (c.drop_list_of-2.ensures.indexed left (indexed_rest c.args.self.now.exchanges c.remove-waiter.new.self c.drop_list_of.new.store 1 2 left c.drop_list_of.ensures.rest (λ z. omega arith) E.exchanges)) in
     T.listed
 
 pub returns-clause-removes : goal.returns-clause-removes
@@ -45,8 +45,8 @@ returns-clause-removes c =
     let x' : Waiting = record c.args.self.now { store = c.drop_list_of-2.new.store; primaries = c.drop_list_of.new.numbers; exchanges = c.drop_list_of-2.new.numbers } in
     let left = without c.args.slot (slots_in c.args.self.now) in
     let T = taken c.args.self.now x' c.remove-waiter.new.self c.drop_list_of.new.store c.args.slot c.remove-waiter.result refl c.requires.listed c.requires.slot E c.drop_list_of.ensures.rest c.drop_list_of-2.ensures.rest
-        (c.drop_list_of.ensures.indexed left E.primaries)
-        (c.drop_list_of-2.ensures.indexed left (indexed_rest c.args.self.now.exchanges c.remove-waiter.new.self c.drop_list_of.new.store 1 2 left c.drop_list_of.ensures.rest (λ z. omega arith) E.exchanges)) in
+    (c.drop_list_of.ensures.indexed left E.primaries)
+    (c.drop_list_of-2.ensures.indexed left (indexed_rest c.args.self.now.exchanges c.remove-waiter.new.self c.drop_list_of.new.store 1 2 left c.drop_list_of.ensures.rest (λ z. omega arith) E.exchanges)) in
     T.removes
 
 pub returns-clause-filled : goal.returns-clause-filled

@@ -72,11 +72,12 @@ invariant_of-self g c =
     let w : Seen g.row.E.Denot = record { windows = i.windows; finished = i.finished; first = i.first; clock = i.clock; weight_sum = i.weight_sum; held = i.places.items } in
     let is : c.ready.result ≡ true = search rules in
     let ready : is_ready g.E.Keyed.view w ≡ true = subst (λ x. is_ready g.E.Keyed.view x ≡ true) (sym c.self.view_is) (sym c.ready.ensures.ready ∙ is) in
-    let F = pop_facts g.E.Keyed.view w i.count i.weight c.take_front-record.result c.take_front-record.new.places.items c.trim.new.places.items c.trim.result c.self.invariant.0 ready c.take_front-record.ensures c.trim.ensures in
-    (subst (λ n. Keeps g.E.Keyed.view (after w c.trim.result c.trim.new.places.items) n (i.weight - c.weight_in.result)) (ap (λ (n : ℕ). i.count - n) (sym c.events_in.ensures))
-    (subst (λ n. Keeps g.E.Keyed.view (after w c.trim.result c.trim.new.places.items) (i.count - events_in c.take_front-record.result) (i.weight - n)) (sym c.weight_in.ensures) F.keeps),
-    popped_waiting g.E.Keyed.view w i.count i.weight c.take_front-record.result c.take_front-record.new.places.items c.trim.new.places.items c.trim.result i.queries i.responses c.take_front.new.self c.take_front-2.new.self c.self.invariant.0 c.self.invariant.1
-        c.take_front-record.ensures c.trim.ensures c.take_front.ensures.listed c.take_front.ensures.filled c.take_front.ensures.left c.take_front-2.ensures.listed c.take_front-2.ensures.filled c.take_front-2.ensures.left)
+    let F = pop_facts g.E.Keyed.view w i.count i.weight c.take_front-record.result c.take_front-record.new.places.items c.trim.new.places.items c.trim.result c.self.invariant.0 ready c.take_front-record.ensures c.trim.ensures in (
+      subst (λ n. Keeps g.E.Keyed.view (after w c.trim.result c.trim.new.places.items) n (i.weight - c.weight_in.result)) (ap (λ (n : ℕ). i.count - n) (sym c.events_in.ensures))
+          (subst (λ n. Keeps g.E.Keyed.view (after w c.trim.result c.trim.new.places.items) (i.count - events_in c.take_front-record.result) (i.weight - n)) (sym c.weight_in.ensures) F.keeps),
+      popped_waiting g.E.Keyed.view w i.count i.weight c.take_front-record.result c.take_front-record.new.places.items c.trim.new.places.items c.trim.result i.queries i.responses c.take_front.new.self c.take_front-2.new.self c.self.invariant.0 c.self.invariant.1
+          c.take_front-record.ensures c.trim.ensures c.take_front.ensures.listed c.take_front.ensures.filled c.take_front.ensures.left c.take_front-2.ensures.listed c.take_front-2.ensures.filled c.take_front-2.ensures.left,
+    )
 
 pub returns-clause-popped : goal.returns-clause-popped
 returns-clause-popped g c =
