@@ -1,24 +1,23 @@
 -- What is shown of the code that takes in the next event.
-use Rattle.std.proofs.Common.{◌≡◌, ℕ, zero, suc, ◌+◌, ◌-◌, ◌<◌, ◌≤◌, List, [], ◌∷◌, ◌++◌, length, set, get_or, filter, Option, Some, None, refl, ap, sym, ◌∙◌, subst, arith, inl, inr, length-set}
+use Rattle.std.proofs.Common.{◌≡◌, ℕ, ◌+◌, ◌-◌, ◌<◌, ◌≤◌, List, [], ◌∷◌, length, set, Option, Some, None, refl, ap, sym, ◌∙◌, subst, arith, inl, inr, length-set}
 use Rattle.std.proofs.lemmas.Option.{none-some}
 use Rattle.std.proofs.lemmas.List.{length_push, get_or_append_left, set-append_left}
 use Rattle.cd_pairing.specs.declared.keyed.TheConstants.{LEAST_WEIGHT}
 use Rattle.cd_pairing.specs.declared.keyed.Side.{Side}
 use Rattle.cd_pairing.specs.declared.keyed.Side.TheVariants.{Query, Response, Neither}
-use Rattle.cd_pairing.specs.declared.keyed.Windows.{Windows}
 use Rattle.cd_pairing.specs.Events.{EventView, are_opposite}
 use Rattle.cd_window.specs.declared.held.Held.{Held}
 use Rattle.cd_window.specs.declared.stamps.Stamp.{Stamp}
 use Rattle.cd_window.specs.declared.waiting.Waiting.{Waiting}
-use Rattle.cd_window.specs.Seen.{Seen, count_of}
+use Rattle.cd_window.specs.Seen.{Seen}
 use Rattle.cd_window.specs.Pushes.{with_partner}
 use Rattle.cd_window.specs.Keeping.{StampsRise, Keeps}
 use Rattle.cd_window.specs.Places.{place_at, IsAmong, held_next, HoldsNext, Puts}
-use Rattle.cd_window.specs.Waiting.{Waits, waits_with, same_side, waits_still, waiting, agreeing}
-use Rattle.cd_window.specs.Lists.{waits_in, IsListed, HasNoEmpty, Holds, KeepsWaiting}
-use Rattle.cd_window.specs.Joining.{before_next, Meets, Joins, Admits}
+use Rattle.cd_window.specs.Waiting.{Waits, waits_with, waiting}
+use Rattle.cd_window.specs.Lists.{waits_in, IsListed, HasNoEmpty, KeepsWaiting}
+use Rattle.cd_window.specs.Joining.{Meets, Joins, Admits}
 use Rattle.cd_window.proofs.Partners.{opposite_query, opposite_response, Found, finds, finds_none, found_among, found_puts}
-use Rattle.cd_window.proofs.Joined.{Waited, joins_wait}
+use Rattle.cd_window.proofs.Joined.{joins_wait}
 use Rattle.cd_window.proofs.Popped.{place_within}
 use Rattle.cd_window.proofs.Putting.{grown, IsNext}
 

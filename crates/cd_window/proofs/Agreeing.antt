@@ -1,18 +1,16 @@
 -- Which keys two events have in common that agree in what identifies an exchange.
-use Rattle.std.proofs.Common.{◌≡◌, ℕ, Bool, true, false, ◌&&◌, ◌||◌, List, [], ◌∷◌, filter, map, cond, Option, Some, None, refl, ap, sym, ◌∙◌}
+use Rattle.std.proofs.Common.{◌≡◌, ℕ, Bool, true, false, ◌&&◌, ◌||◌, List, filter, map, Option, Some, None, refl, ap, sym, ◌∙◌}
 use Rattle.std.specs.Prelude.{IsSome, IfSome, is_none, nat_eq, slice_get}
 use Rattle.std.specs.Option.{option_eq, option_map}
 use Rattle.std.specs.Cmp.Lexicographic.{pointwise, nat_list_eq_equiv}
 use Rattle.std.proofs.lemmas.Bool.{both_ways}
-use Rattle.std.proofs.lemmas.Option.{none-some}
 use Rattle.cd_pairing.specs.Events.{secondaries_agree}
 use Rattle.cd_chain.specs.Cells.{is_in}
 use Rattle.cd_chain.specs.Contents.{Contents, value_at}
-use Rattle.cd_window.specs.declared.key.Key.{Key}
 use Rattle.cd_window.specs.declared.waiter.Waiter.{Waiter}
 use Rattle.cd_window.specs.declared.waiting.Waiting.{Waiting}
 use Rattle.cd_window.specs.Keys.{same_key, secondary_of}
-use Rattle.cd_window.specs.Waiting.{Waits, waits_of, agrees_with, AreRising, agreeing, but_at}
+use Rattle.cd_window.specs.Waiting.{waits_of, agrees_with, AreRising, agreeing, but_at}
 use Rattle.cd_window.specs.Lists.{key_is, has_key, those, slots_in, shown, waits_in_slot, waits_in, Removes, agrees_in_slot, earlier_slot}
 use Rattle.cd_window.proofs.Sublists.{filter_same, first_is}
 use Rattle.cd_window.proofs.Waits.{first_either, agreeing_slot, gone_waits}

@@ -1,5 +1,5 @@
 -- Where no event waits.
-use Rattle.std.proofs.Common.{◌≡◌, ℕ, ◌+◌, ◌<◌, ◌≤◌, true, false, ◌&&◌, eqb, List, [], length, map, cond, Option, Some, None, refl, ap, sym, ◌∙◌, subst, arith}
+use Rattle.std.proofs.Common.{◌≡◌, ℕ, List, [], length, map, Option, Some, None, refl, ap, sym, ◌∙◌, subst, arith}
 use Rattle.std.specs.Prelude.{IsSome}
 use Rattle.std.specs.Map.{lookup}
 use Rattle.std.proofs.lemmas.Bool.{eq-eqb, true≢false}
@@ -7,7 +7,7 @@ use Rattle.std.proofs.lemmas.Option.{none-some}
 use Rattle.std.proofs.lemmas.List.{get_or_past}
 use Rattle.indexmap.specs.IndexMap.{IndexMap}
 use Rattle.cd_chain.specs.Cells.{is_in, AreDistinct}
-use Rattle.cd_chain.specs.Contents.{Contents, value_at, used_slots, list_at, slots_of}
+use Rattle.cd_chain.specs.Contents.{Contents, used_slots, list_at, slots_of}
 use Rattle.cd_chain.specs.Calls.{AddsList}
 use Rattle.cd_window.specs.declared.key.Key.{Key}
 use Rattle.cd_window.specs.declared.waiter.Waiter.{Waiter}

@@ -1,5 +1,5 @@
 -- What waits once the front is popped.
-use Rattle.std.proofs.Common.{◌≡◌, ℕ, ◌+◌, ◌-◌, ◌<◌, ◌≤◌, Bool, true, false, not, ◌&&◌, eqb, List, length, drop, set, get_or, filter, Option, Some, None, refl, ap, sym, ◌∙◌, subst, arith, inl, inr, length-set, length-drop}
+use Rattle.std.proofs.Common.{◌≡◌, ℕ, ◌+◌, ◌-◌, Bool, true, false, not, ◌&&◌, eqb, List, length, set, Option, Some, None, refl, ap, sym, ◌∙◌, arith, inl, inr, length-set, length-drop}
 use Rattle.std.specs.Prelude.{is_none}
 use Rattle.std.proofs.lemmas.Bool.{cases_eq, ne_eqb}
 use Rattle.std.proofs.lemmas.Option.{none-some}
@@ -10,12 +10,11 @@ use Rattle.cd_window.specs.declared.held.Held.{Held}
 use Rattle.cd_window.specs.declared.released.Released.{Released}
 use Rattle.cd_window.specs.declared.waiting.Waiting.{Waiting}
 use Rattle.cd_window.specs.Lists.{waits_in, IsListed, HasNoEmpty, KeepsWaiting}
-use Rattle.cd_window.specs.Seen.{Seen, count_of, held_at, stamped, waits_after}
+use Rattle.cd_window.specs.Seen.{Seen, count_of, stamped, waits_after}
 use Rattle.cd_window.specs.Keeping.{Keeps}
-use Rattle.cd_window.specs.Places.{place_at, Trims, TakesOne, TakesPair, Takes}
+use Rattle.cd_window.specs.Places.{place_at, Trims, Takes}
 use Rattle.cd_window.specs.Waiting.{same_side, waits_from, is_waiting, waiting, but_at}
 use Rattle.cd_window.proofs.Picking.{waits_filter, waits_same, waits_set, waits_drop}
-use Rattle.cd_window.proofs.Popped.{place_within}
 use Rattle.cd_window.proofs.Taking.{after}
 
 -- what is picked of what is left

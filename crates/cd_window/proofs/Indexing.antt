@@ -1,16 +1,16 @@
 -- Lists by key, as a list or a slot comes or goes.
-use Rattle.std.proofs.Common.{◌≡◌, ℕ, zero, suc, ◌<◌, ◌≤◌, ◌+◌, Bool, true, false, not, ◌&&◌, ◌||◌, eqb, List, [], ◌∷◌, ◌++◌, length, map, cond, filter, Option, Some, None, refl, ap, sym, ◌∙◌, subst, arith, inl, inr}
-use Rattle.std.specs.Prelude.{IsSome, is_some}
+use Rattle.std.proofs.Common.{◌≡◌, ℕ, Bool, true, false, eqb, List, [], ◌∷◌, ◌++◌, cond, filter, Option, Some, None, refl, ap, sym, ◌∙◌, subst, inl, inr}
+use Rattle.std.specs.Prelude.{IsSome}
 use Rattle.std.specs.Cmp.{IsEquivalence}
 use Rattle.std.proofs.lemmas.Bool.{cases_Bool, eqb-true, eq-eqb, both_ways, true≢false, false_from_ne_true, cond-true, cond-false}
 use Rattle.std.proofs.lemmas.Option.{none-some}
 use Rattle.std.proofs.lemmas.List.{append-nil}
-use Rattle.cd_chain.specs.Cells.{is_in, AreDistinct}
+use Rattle.cd_chain.specs.Cells.{is_in}
 use Rattle.cd_chain.specs.Chains.{without}
 use Rattle.cd_chain.specs.Lists.{gone_from, put_in}
-use Rattle.cd_chain.proofs.Linking.{head_in, tail_in, without_none, in_without, in_push}
-use Rattle.cd_window.specs.ByKey.{AreByKey, AreFilled}
-use Rattle.cd_window.proofs.Sublists.{filter_same, filter_none, in_filter, was_in, filter_without, not_in_without, filter_push}
+use Rattle.cd_chain.proofs.Linking.{in_without, in_push}
+use Rattle.cd_window.specs.ByKey.{AreByKey}
+use Rattle.cd_window.proofs.Sublists.{filter_same, filter_none, in_filter, filter_without, not_in_without, filter_push}
 
 -- what a slot has is one key, and equal keys have one number
 pub record AreKeys {K : Type 0} (number : K → Option ℕ) (has : K → ℕ → Bool) (eq : K → K → Bool) : Type 0 where

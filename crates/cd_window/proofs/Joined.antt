@@ -1,31 +1,24 @@
 -- What waits once the next event is held, and once a record is popped.
-use Rattle.std.proofs.Common.{◌≡◌, ℕ, zero, suc, ◌+◌, ◌-◌, ◌<◌, ◌≤◌, ◌^◌, Bool, true, false, not, ◌&&◌, eqb, max, List, [], ◌∷◌, ◌++◌, length, drop, set, get_or, cond, filter, Option, Some, None, refl, ap, sym, ◌∙◌, subst, arith, inl, inr, length-set, length-drop}
-use Rattle.std.specs.Prelude.{is_none, is_some, slice_get}
-use Rattle.std.specs.List.{count_by}
-use Rattle.std.proofs.lemmas.Bool.{cases_Bool, cases_eq, ne_eqb, both_ways, true≢false, and_parts, false_from_ne_true}
-use Rattle.std.proofs.lemmas.Option.{none-some}
-use Rattle.std.proofs.lemmas.List.{length_push, append-nil, get_or_push}
+use Rattle.std.proofs.Common.{◌≡◌, ℕ, ◌+◌, ◌≤◌, Bool, true, false, not, ◌&&◌, eqb, List, [], ◌∷◌, ◌++◌, length, set, cond, filter, Option, Some, None, refl, ap, sym, ◌∙◌, subst, arith, inl, inr}
+use Rattle.std.specs.Prelude.{is_none}
+use Rattle.std.proofs.lemmas.Bool.{cases_Bool, cases_eq, ne_eqb, true≢false, and_parts, false_from_ne_true}
+use Rattle.std.proofs.lemmas.List.{append-nil}
 use Rattle.std.proofs.lemmas.List.Elements.{filter-append}
-use Rattle.cd_pairing.specs.declared.keyed.TheConstants.{LEAST_WEIGHT}
 use Rattle.cd_pairing.specs.declared.keyed.Side.{Side}
 use Rattle.cd_pairing.specs.declared.keyed.Side.TheVariants.{Query, Response, Neither}
 use Rattle.cd_pairing.specs.declared.keyed.Windows.{Windows}
 use Rattle.cd_pairing.specs.Events.{EventView, are_opposite}
 use Rattle.cd_pairing.proofs.OpenWindows.{parts}
 use Rattle.cd_window.specs.declared.held.Held.{Held}
-use Rattle.cd_window.specs.declared.released.Released.{Released}
 use Rattle.cd_window.specs.declared.stamps.Stamp.{Stamp}
-use Rattle.cd_window.specs.Seen.{Seen, count_of, held_at, stamped, waits_after, is_ready, held_count}
+use Rattle.cd_window.specs.Seen.{Seen, count_of, stamped, waits_after}
 use Rattle.cd_window.specs.Pushes.{with_partner}
-use Rattle.cd_window.specs.Keeping.{StampsRise, IsMated, Keeps}
-use Rattle.cd_window.specs.Places.{with_stamp, place_at, place_fits, FirstFits, HoldsNext, held_next, Trims, TakesOne, TakesPair, Takes}
-use Rattle.cd_window.specs.Waiting.{Waits, waits_with, waits_at, same_side, waits_from, is_waiting, waiting, waits_still, but_at, left_of, joined_by}
+use Rattle.cd_window.specs.Places.{with_stamp, place_at, place_fits, HoldsNext, held_next}
+use Rattle.cd_window.specs.Waiting.{Waits, waits_with, waits_at, same_side, waits_from, waiting, waits_still, but_at, left_of, joined_by}
 use Rattle.cd_window.specs.Joining.{before_next, after_next, Meets, Joins}
-use Rattle.cd_window.proofs.Picking.{waits_filter, waits_same, waits_push, waits_set, waits_drop}
-use Rattle.cd_window.proofs.Partners.{side_is, still_sooner, FoundAt, FoundNone, Found}
-use Rattle.cd_window.proofs.Popped.{place_within}
+use Rattle.cd_window.proofs.Picking.{waits_filter, waits_same, waits_push, waits_set}
+use Rattle.cd_window.proofs.Partners.{side_is, still_sooner, FoundAt, Found}
 use Rattle.cd_window.proofs.Putting.{grown, IsNext}
-use Rattle.cd_window.proofs.Taking.{after}
 
 -- what waits by a stamp, of one side
 abbrev waits_by : {E : Type 0} → (E → EventView) → Windows → Stamp → Side → ℕ → Held E → Bool

@@ -1,10 +1,10 @@
 -- What calls on a store change in one lane, and what they leave.
 use Rattle.std.proofs.Common.{◌≡◌, ℕ, ◌+◌, Bool, true, false, ◌&&◌, eqb, List, [], cond, Option, Some, None, refl, ap, sym, ◌∙◌, arith}
-use Rattle.std.proofs.lemmas.Bool.{eq-eqb, ne_eqb, eqb-true, cases_Bool}
+use Rattle.std.proofs.lemmas.Bool.{eq-eqb, ne_eqb, eqb-true}
 use Rattle.cd_chain.specs.Contents.{Contents, list_at, list_count}
 use Rattle.cd_chain.specs.Calls.{AddsList, DropsList}
 use Rattle.cd_window.specs.declared.waiter.Waiter.{Waiter}
-use Rattle.cd_window.specs.Lists.{KeepsLane, KeepsRest}
+use Rattle.cd_window.specs.Lists.{KeepsRest}
 
 pub adds_lane : (old new : Contents Waiter) (lane n : ℕ) → AddsList old new lane n → (j : ℕ) → list_at new lane j ≡ cond (eqb j n) (Some []) (list_at old lane j)
 adds_lane old new lane n A j = A.lists lane j ∙ ap (λ (b : Bool). cond (b && eqb j n) (Some []) (list_at old lane j)) (eq-eqb lane lane refl)

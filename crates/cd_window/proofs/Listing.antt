@@ -1,7 +1,7 @@
 -- What stands in the lists of events that wait, as events come and go.
-use Rattle.std.proofs.Common.{◌≡◌, ℕ, zero, suc, ◌<◌, ◌≤◌, ◌+◌, ◌^◌, Bool, true, false, not, ◌&&◌, ◌||◌, eqb, List, [], ◌∷◌, ◌++◌, length, get_or, map, cond, filter, Option, Some, None, refl, ap, sym, ◌∙◌, subst, arith, inl, inr}
-use Rattle.std.specs.Prelude.{IsSome, IfSome, is_some, slice_get, slice_index_or}
-use Rattle.std.proofs.lemmas.Bool.{cases_Bool, eqb-true, eq-eqb, both_ways, true≢false, false_from_ne_true}
+use Rattle.std.proofs.Common.{◌≡◌, ℕ, zero, suc, ◌<◌, ◌≤◌, ◌+◌, Bool, true, false, eqb, List, [], ◌∷◌, ◌++◌, length, map, Option, Some, None, refl, ap, sym, ◌∙◌, subst, arith, inl, inr}
+use Rattle.std.specs.Prelude.{IsSome, IfSome, slice_get, slice_index_or}
+use Rattle.std.proofs.lemmas.Bool.{eqb-true, eq-eqb, both_ways, true≢false, false_from_ne_true}
 use Rattle.std.proofs.lemmas.Option.{none-some}
 use Rattle.std.proofs.lemmas.List.{length_push, map_push}
 use Rattle.indexmap.specs.IndexMap.{IndexMap}
@@ -16,9 +16,9 @@ use Rattle.cd_window.specs.declared.waiter.Waiter.{Waiter}
 use Rattle.cd_window.specs.declared.waiting.Waiting.{Waiting}
 use Rattle.cd_window.specs.Keys.{same_key}
 use Rattle.cd_window.specs.Waiting.{Waits, waits_of}
-use Rattle.cd_window.specs.Lists.{key_in, key_is, has_key, number_of, IsIndexed, IsFilled, no_key, but_key, KeepsLane, KeepsRest, slots_in, shown, waits_in_slot, waits_in, IsListed, HasNoEmpty, HasRoom, Removes}
+use Rattle.cd_window.specs.Lists.{key_in, key_is, has_key, number_of, IsIndexed, IsFilled, but_key, KeepsRest, slots_in, shown, waits_in_slot, waits_in, IsListed, HasNoEmpty, HasRoom, Removes}
 use Rattle.cd_window.proofs.Sublists.{not_in_without, length_without}
-use Rattle.cd_window.proofs.Indexing.{AreKeys, not_none, some_is, same_index, index_without, index_with}
+use Rattle.cd_window.proofs.Indexing.{not_none, some_is, same_index, index_without, index_with}
 use Rattle.cd_window.proofs.Filling.{same_filled, filled_without, filled_with, few_lists}
 use Rattle.cd_window.proofs.Keying.{same_key_laws, keys_are}
 

@@ -1,11 +1,9 @@
 -- The events that wait stand in order while the next one is taken in.
-use Rattle.std.proofs.Common.{◌≡◌, ℕ, ◌+◌, ◌-◌, ◌<◌, ◌≤◌, Bool, not, eqb, List, [], ◌∷◌, ◌++◌, filter, Option, Some, None, ap, sym, ◌∙◌, subst, arith}
+use Rattle.std.proofs.Common.{◌≡◌, ℕ, ◌+◌, ◌-◌, ◌≤◌, Bool, not, eqb, List, filter, Option, Some, None, ap, sym, ◌∙◌, subst, arith}
 use Rattle.cd_pairing.specs.declared.keyed.TheConstants.{LEAST_WEIGHT}
-use Rattle.cd_pairing.specs.declared.keyed.Side.{Side}
-use Rattle.cd_pairing.specs.declared.keyed.Windows.{Windows}
 use Rattle.cd_pairing.specs.Events.{EventView}
 use Rattle.cd_window.specs.declared.stamps.Stamp.{Stamp}
-use Rattle.cd_window.specs.Waiting.{Waits, waits_with, waits_still, AreRising, CameBefore, AllBefore, left_of, joined_by}
+use Rattle.cd_window.specs.Waiting.{Waits, waits_with, AreRising, CameBefore, AllBefore, left_of, joined_by}
 use Rattle.cd_window.specs.Joining.{before_next, after_next}
 use Rattle.cd_window.proofs.Waits.{rising_filter, before_filter, before_later, rising_push, before_push}
 

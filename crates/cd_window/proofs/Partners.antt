@@ -1,29 +1,26 @@
 -- What the lists of events that wait tell of the partner of the next event.
-use Rattle.std.proofs.Common.{◌≡◌, ℕ, zero, suc, ◌+◌, ◌-◌, ◌<◌, ◌≤◌, ◌^◌, Bool, true, false, not, ◌&&◌, eqb, max, List, [], ◌∷◌, ◌++◌, length, set, get_or, cond, filter, Option, Some, None, refl, ap, sym, ◌∙◌, subst, arith, inl, inr, ◌⊎◌}
+use Rattle.std.proofs.Common.{◌≡◌, ℕ, ◌+◌, ◌-◌, ◌<◌, ◌≤◌, Bool, true, false, ◌&&◌, List, length, filter, Option, Some, None, refl, ap, sym, ◌∙◌, subst, arith, inl, inr, ◌⊎◌}
 use Rattle.std.specs.Prelude.{is_none, IsSome, slice_get}
 use Rattle.std.specs.Option.{option_map}
-use Rattle.std.specs.Cmp.Lexicographic.{pointwise}
-use Rattle.std.proofs.lemmas.Bool.{cases_Bool, cases_lt, both_ways, true≢false, and_parts, and_from, false_from_ne_true}
-use Rattle.std.proofs.lemmas.Option.{none-some}
-use Rattle.std.proofs.lemmas.List.{get_or_past}
+use Rattle.std.proofs.lemmas.Bool.{true≢false}
 use Rattle.cd_pairing.specs.declared.keyed.TheConstants.{LEAST_WEIGHT}
 use Rattle.cd_pairing.specs.declared.keyed.Side.{Side}
 use Rattle.cd_pairing.specs.declared.keyed.Side.TheVariants.{Query, Response, Neither}
 use Rattle.cd_pairing.specs.declared.keyed.Windows.{Windows}
-use Rattle.cd_pairing.specs.Events.{EventView, are_opposite, secondaries_agree}
+use Rattle.cd_pairing.specs.Events.{EventView, are_opposite}
 use Rattle.cd_pairing.specs.Pairing.{StampedEvent, timeout, identifiers_agree, is_in_window, may_pair}
 use Rattle.cd_pairing.proofs.OpenWindows.{in_window_from, in_window_parts}
 use Rattle.cd_window.specs.declared.held.Held.{Held}
 use Rattle.cd_window.specs.declared.stamps.Stamp.{Stamp}
-use Rattle.cd_window.specs.Seen.{Seen, count_of, held_at, stamped, waits_after}
+use Rattle.cd_window.specs.Seen.{Seen, count_of, stamped, waits_after}
 use Rattle.cd_window.specs.Keeping.{StampsRise}
-use Rattle.cd_window.specs.Places.{with_stamp, place_at, place_fits, NothingFits, FirstFits, IsAmong, HoldsNext, PutsPaired, PutsAlone, Puts}
+use Rattle.cd_window.specs.Places.{with_stamp, place_at, place_fits, NothingFits, FirstFits, IsAmong, HoldsNext, Puts}
 use Rattle.cd_window.specs.Waiting.{Waits, waits_with, waits_at, same_side, waits_from, is_waiting, waiting, stamped_waits, waits_still, agrees_with, agreeing}
-use Rattle.cd_window.specs.Joining.{before_next, after_next}
-use Rattle.cd_window.proofs.Closing.{OpenParts, open_parts, open_from, stands}
+use Rattle.cd_window.specs.Joining.{before_next}
+use Rattle.cd_window.proofs.Closing.{open_parts, open_from, stands}
 use Rattle.cd_window.proofs.Popped.{place_within}
 use Rattle.cd_window.proofs.Putting.{IsNext}
-use Rattle.cd_window.proofs.Picking.{waits_filter, waits_same, FirstOf, waits_first, waits_none}
+use Rattle.cd_window.proofs.Picking.{waits_filter, waits_same, waits_first, waits_none}
 
 -- the same side is the one that is told
 pub side_is : (a b : Side) → same_side a b ≡ true → a ≡ b

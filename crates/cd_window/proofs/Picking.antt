@@ -1,15 +1,14 @@
 -- What is picked of the events that are held, as events come and go.
-use Rattle.std.proofs.Common.{◌≡◌, ℕ, zero, suc, ◌+◌, ◌-◌, ◌<◌, ◌≤◌, Bool, true, false, not, ◌&&◌, eqb, List, [], ◌∷◌, ◌++◌, length, drop, set, get_or, cond, filter, Option, Some, None, refl, ap, sym, ◌∙◌, subst, arith, inl, inr}
+use Rattle.std.proofs.Common.{◌≡◌, ℕ, zero, suc, ◌+◌, ◌<◌, ◌≤◌, Bool, true, false, not, ◌&&◌, eqb, List, [], ◌∷◌, ◌++◌, length, drop, set, get_or, cond, filter, Option, Some, None, refl, ap, sym, ◌∙◌, arith, inl, inr}
 use Rattle.std.specs.Prelude.{is_some, slice_get}
-use Rattle.std.specs.List.{count_by, sum_by}
-use Rattle.std.proofs.lemmas.Bool.{cases_Bool, cases_eq, eq-eqb, ne_eqb, both_ways, true≢false}
+use Rattle.std.specs.List.{count_by}
+use Rattle.std.proofs.lemmas.Bool.{cases_Bool, eq-eqb, ne_eqb}
 use Rattle.std.proofs.lemmas.Option.{none-some}
 use Rattle.std.proofs.lemmas.List.Sums.{sum_by-cons}
 use Rattle.cd_pairing.specs.Events.{EventView}
 use Rattle.cd_window.specs.declared.held.Held.{Held}
 use Rattle.cd_window.specs.Keeping.{StampsRise}
-use Rattle.cd_window.specs.Waiting.{Waits, waits_with, waits_at, waits_from, Rises, RisesTo, AreRising, CameBefore, AllBefore, NoneBefore, but_at}
-use Rattle.cd_window.proofs.Rising.{rises_lower}
+use Rattle.cd_window.specs.Waiting.{Waits, waits_at, waits_from, RisesTo, AreRising, AllBefore, NoneBefore}
 
 same_some : {E : Type 0} (x y : Held E) → Some x ≡ Some y → x ≡ y
 same_some x y e = cc

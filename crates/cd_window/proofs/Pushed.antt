@@ -1,13 +1,12 @@
 -- What a push may ask of the events that wait.
-use Rattle.std.proofs.Common.{◌≡◌, ℕ, ◌+◌, ◌-◌, ◌<◌, ◌≤◌, ◌^◌, false, max, List, length, Option, refl, ap, sym, ◌∙◌, subst, arith}
-use Rattle.cd_pairing.specs.declared.keyed.TheConstants.{LEAST_WEIGHT}
+use Rattle.std.proofs.Common.{◌≡◌, ℕ, ◌-◌, false, length, refl, ap, sym, subst, arith}
 use Rattle.cd_pairing.specs.declared.keyed.Side.{Side}
 use Rattle.cd_pairing.specs.Events.{EventView}
 use Rattle.cd_window.specs.declared.stamps.Stamp.{Stamp}
 use Rattle.cd_window.specs.declared.waiting.Waiting.{Waiting}
 use Rattle.cd_window.specs.Seen.{Seen, count_of, is_ready}
 use Rattle.cd_window.specs.Keeping.{Keeps}
-use Rattle.cd_window.specs.Waiting.{Waits, is_waiting, waiting, AreRising, AllBefore, NoneBefore}
+use Rattle.cd_window.specs.Waiting.{is_waiting, waiting, AreRising, AllBefore, NoneBefore}
 use Rattle.cd_window.specs.Lists.{waits_in, Holds}
 use Rattle.cd_window.specs.Joining.{CanJoin}
 use Rattle.cd_window.proofs.Picking.{waits_rising, waits_before, waits_from_here, waits_few}

@@ -4,10 +4,9 @@ use Rattle.std.specs.Prelude.{is_some, is_none}
 use Rattle.std.specs.List.{sum_by}
 use Rattle.std.proofs.lemmas.Bool.{cases_lt, cases_eq, and_parts, true≢false}
 use Rattle.std.proofs.lemmas.Option.{none-some}
-use Rattle.std.proofs.lemmas.List.{length_push, get_or_append_left, get_or_push, get_or-set_same, get_or-set_other, set-append_left}
+use Rattle.std.proofs.lemmas.List.{length_push, get_or_append_left, get_or_push, get_or-set_same, get_or-set_other}
 use Rattle.std.proofs.lemmas.List.Sums.{sum_by_push}
 use Rattle.cd_pairing.specs.declared.keyed.TheConstants.{LEAST_WEIGHT}
-use Rattle.cd_pairing.specs.declared.keyed.Windows.{Windows}
 use Rattle.cd_pairing.specs.Events.{EventView}
 use Rattle.cd_pairing.specs.Pairing.{StampedEvent, may_pair}
 use Rattle.cd_window.specs.declared.held.Held.{Held}
@@ -15,7 +14,7 @@ use Rattle.cd_window.specs.declared.stamps.Stamp.{Stamp}
 use Rattle.cd_window.specs.Seen.{Seen, count_of, held_at, stamped, weight_held}
 use Rattle.cd_window.specs.Pushes.{next_held, with_partner, NoneFitsBefore, IsPushed}
 use Rattle.cd_window.specs.Keeping.{StampsRise, IsMated, Keeps}
-use Rattle.cd_window.specs.Places.{with_stamp, place_at, place_fits, NothingFits, FirstFits, PutsPaired, PutsAlone, Puts}
+use Rattle.cd_window.specs.Places.{with_stamp, place_at, place_fits, NothingFits, PutsPaired, PutsAlone, Puts}
 use Rattle.cd_window.proofs.Counting.{same_sum}
 use Rattle.cd_window.proofs.Popped.{place_within}
 use Rattle.cd_window.proofs.Rising.{rises_push, rises_same}

@@ -1,9 +1,8 @@
 -- The same events wait where only lists of keys come or go.
-use Rattle.std.proofs.Common.{◌≡◌, ℕ, ◌+◌, ◌<◌, ◌≤◌, ◌^◌, List, length, map, Option, refl, ap, sym, ◌∙◌, subst, arith}
+use Rattle.std.proofs.Common.{◌≡◌, ◌<◌, ◌^◌, length, ◌∙◌, arith}
 use Rattle.std.proofs.lemmas.List.{length-map}
-use Rattle.cd_chain.specs.Contents.{Contents, value_at, used_slots, list_at, list_count}
+use Rattle.cd_chain.specs.Contents.{list_count}
 use Rattle.cd_chain.specs.Calls.{KeepsLists, KeepsValues}
-use Rattle.cd_window.specs.declared.waiter.Waiter.{Waiter}
 use Rattle.cd_window.specs.declared.waiting.Waiting.{Waiting}
 use Rattle.cd_window.specs.Lists.{IsIndexed, KeepsRest, slots_in, waits_in_slot, waits_in, IsListed, HasNoEmpty}
 use Rattle.cd_window.proofs.Listing.{rest_value, rest_used, indexed_rest, indexed_kept, Same, listed_same, few_primaries, few_exchanges}

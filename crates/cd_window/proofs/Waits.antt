@@ -1,23 +1,21 @@
 -- Events that wait, in order: which of them are let go of, and which agrees first with another one.
-use Rattle.std.proofs.Common.{◌≡◌, ℕ, zero, suc, ◌<◌, ◌≤◌, ◌+◌, ◌-◌, Bool, true, false, not, ◌&&◌, ◌||◌, eqb, leb, List, [], ◌∷◌, ◌++◌, length, map, cond, filter, Option, Some, None, refl, ap, sym, ◌∙◌, subst, arith, inl, inr}
-use Rattle.std.specs.Prelude.{IsSome, is_none, nat_le, slice_get}
+use Rattle.std.proofs.Common.{◌≡◌, ℕ, ◌<◌, ◌≤◌, ◌+◌, ◌-◌, Bool, true, false, ◌||◌, eqb, List, [], ◌∷◌, ◌++◌, map, filter, Option, Some, None, refl, ap, sym, ◌∙◌, arith, inl, inr}
+use Rattle.std.specs.Prelude.{slice_get}
 use Rattle.std.specs.Option.{option_map}
-use Rattle.std.specs.Cmp.Lexicographic.{pointwise, nat_list_eq_equiv}
-use Rattle.std.proofs.lemmas.Bool.{cases_Bool, eqb-true, eq-eqb, ne_eqb, both_ways, true≢false, false_from_ne_true, le-leb, lt-leb}
-use Rattle.std.proofs.lemmas.Option.{none-some, slice_get-map}
+use Rattle.std.proofs.lemmas.Bool.{cases_Bool, eqb-true, eq-eqb, ne_eqb, true≢false, false_from_ne_true, le-leb, lt-leb}
 use Rattle.cd_pairing.specs.declared.keyed.Side.{Side}
 use Rattle.cd_pairing.specs.declared.keyed.Windows.{Windows}
 use Rattle.cd_pairing.specs.declared.keyed.TheConstants.{LEAST_WEIGHT}
 use Rattle.cd_pairing.specs.Pairing.{timeout}
-use Rattle.cd_chain.specs.Cells.{is_in, AreDistinct}
+use Rattle.cd_chain.specs.Cells.{is_in}
 use Rattle.cd_chain.specs.Chains.{without}
-use Rattle.cd_chain.proofs.Linking.{head_in, tail_in, without_none}
+use Rattle.cd_chain.proofs.Linking.{without_none}
 use Rattle.cd_chain.specs.Contents.{Contents}
 use Rattle.cd_window.specs.declared.stamps.Stamp.{Stamp}
 use Rattle.cd_window.specs.declared.waiter.Waiter.{Waiter}
-use Rattle.cd_window.specs.Waiting.{Waits, stamped_waits, waits_still, agrees_with, Rises, RisesTo, AreRising, CameBefore, AllBefore, NoneBefore, but_at, left_of, agreeing}
+use Rattle.cd_window.specs.Waiting.{Waits, stamped_waits, waits_still, agrees_with, Rises, RisesTo, AreRising, CameBefore, AllBefore, NoneBefore, but_at, agreeing}
 use Rattle.cd_window.specs.Lists.{waits_in_slot, earlier_slot}
-use Rattle.cd_window.proofs.Closing.{OpenParts, open_parts, open_from}
+use Rattle.cd_window.proofs.Closing.{open_parts, open_from}
 use Rattle.cd_window.proofs.Sublists.{first_is}
 
 pub rises_filter : (p : Waits → Bool) (x : Waits) (xs : List Waits) → RisesTo x xs → RisesTo x (filter p xs)

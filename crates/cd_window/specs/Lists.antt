@@ -1,5 +1,5 @@
 -- Scaffolding, which only contracts of private functions cite: the lists in which a store has the events that wait.
-use Rattle.std.specs.Prelude.{◌≡◌, ◌<◌, ℕ, Bool, true, false, eqb, nat_le, if◌then◌else◌, List, [], ◌∷◌, map, length, Option, Some, None, IsSome}
+use Rattle.std.specs.Prelude.{◌≡◌, ◌<◌, ℕ, Bool, true, false, eqb, nat_le, if◌then◌else◌, List, [], map, length, Option, Some, None, IsSome}
 use Rattle.std.specs.List.{filter}
 use Rattle.indexmap.specs.IndexMap.{IndexMap, get}
 use Rattle.cd_chain.specs.Cells.{is_in, AreDistinct}

@@ -1,10 +1,10 @@
 -- Scaffolding, which only contracts of private functions cite: the events of a side that wait for their partners.
-use Rattle.std.specs.Prelude.{◌≡◌, ℕ, suc, ◌+◌, ◌<◌, ◌≤◌, Bool, true, false, not, ◌&&◌, nat_eq, eqb, cond, List, [], ◌∷◌, ◌++◌, Option, Some, None, is_none, slice_get}
+use Rattle.std.specs.Prelude.{ℕ, suc, ◌+◌, ◌<◌, ◌≤◌, Bool, true, false, not, ◌&&◌, nat_eq, eqb, cond, List, [], ◌∷◌, ◌++◌, Option, Some, None, is_none, slice_get}
 use Rattle.std.specs.List.{filter}
 use Rattle.std.specs.Option.{option_map}
 use Rattle.std.specs.Cmp.Lexicographic.{pointwise}
 use Rattle.cd_pairing.specs.declared.keyed.Side.{Side}
-use Rattle.cd_pairing.specs.declared.keyed.Side.TheVariants.{Query, Response, Neither}
+use Rattle.cd_pairing.specs.declared.keyed.Side.TheVariants.{Query, Response}
 use Rattle.cd_pairing.specs.declared.keyed.Windows.{Windows}
 use Rattle.cd_pairing.specs.Events.{EventView, secondaries_agree}
 use Rattle.cd_pairing.specs.Pairing.{StampedEvent}

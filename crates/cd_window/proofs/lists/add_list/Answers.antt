@@ -1,6 +1,5 @@
 -- the key gets the list, or all is as it was
-use Rattle.std.proofs.Common.{◌≡◌, None, ap, sym, ◌∙◌}
-use Rattle.cd_window.specs.Lists.{number_of}
+use Rattle.std.proofs.Common.{◌∙◌}
 use Rattle.cd_window.proofs.Keying.{keys_are}
 use Rattle.cd_window.proofs.KeyCalls.{added_indexed, added_filled, added_number, undone_indexed, undone_filled}
 use Rattle.cd_window.proofs.LaneCalls.{adds_rest, drops_rest, rest_twice}

@@ -1,5 +1,5 @@
 -- a key that has a list keeps it
-use Rattle.std.proofs.Common.{false, ap, sym, ◌∙◌, subst, refl}
+use Rattle.std.proofs.Common.{false, subst, refl}
 use Rattle.std.specs.Prelude.{IsSome}
 use Rattle.cd_chain.specs.Contents.{list_at}
 use Rattle.cd_window.specs.Keys.{same_key}

@@ -1,5 +1,5 @@
 -- a list that is not empty stays
-use Rattle.std.proofs.Common.{◌≡◌, List, Option, Some, None, [], refl, ap, sym, ◌∙◌, subst}
+use Rattle.std.proofs.Common.{refl, sym, subst}
 use Rattle.std.specs.Prelude.{IsSome}
 use Rattle.cd_chain.specs.Contents.{list_at}
 use Rattle.cd_window.specs.Keys.{same_key}

@@ -1,5 +1,5 @@
 -- the list of a key is there, and has the slots of the key
-use Rattle.std.proofs.Common.{List, Option, Some, None, refl, ap, sym, ◌∙◌, subst}
+use Rattle.std.proofs.Common.{refl, ap, sym, ◌∙◌, subst}
 use Rattle.std.specs.Prelude.{IsSome, slice_get}
 use Rattle.cd_chain.specs.Contents.{list_at, slots_of}
 use Rattle.cd_window.specs.Keys.{same_key}

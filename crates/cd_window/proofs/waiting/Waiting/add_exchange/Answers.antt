@@ -1,5 +1,5 @@
 -- the list of a primary and a secondary is there, or that of the primary goes again
-use Rattle.std.proofs.Common.{◌≡◌, ◌<◌, refl, arith}
+use Rattle.std.proofs.Common.{◌<◌, refl, arith}
 use Rattle.cd_window.specs.declared.waiting.Waiting.{Waiting}
 use Rattle.cd_window.specs.Lists.{slots_in, no_key, but_key}
 use Rattle.cd_window.proofs.Listing.{indexed_rest, filled_rest, Same}

@@ -1,8 +1,8 @@
 -- the list of a primary is there
-use Rattle.std.proofs.Common.{◌≡◌, ◌<◌, ◌+◌, refl, arith, ap, sym, ◌∙◌, subst}
+use Rattle.std.proofs.Common.{refl, arith, ◌∙◌}
 use Rattle.cd_window.specs.declared.waiting.Waiting.{Waiting}
 use Rattle.cd_window.specs.Lists.{slots_in, no_key}
-use Rattle.cd_window.proofs.Listing.{filled_rest, Same}
+use Rattle.cd_window.proofs.Listing.{filled_rest}
 use Rattle.cd_window.proofs.Stepping.{step_primaries, primaries_room, exchanges_room}
 use Rattle.cd_window.proofs.waiting.Waiting.add_lists.Goals as goal
 

@@ -1,5 +1,5 @@
 -- the event comes last in its lists
-use Rattle.std.proofs.Common.{refl, Some}
+use Rattle.std.proofs.Common.{refl}
 use Rattle.cd_window.specs.declared.waiting.Waiting.{Waiting}
 use Rattle.cd_window.proofs.Listing.{put_waits, lists_there}
 use Rattle.cd_window.proofs.waiting.Waiting.put.Goals as goal

@@ -1,9 +1,9 @@
 -- the slot goes from each list, and the lists that became empty go
-use Rattle.std.proofs.Common.{◌≡◌, ℕ, arith, refl}
+use Rattle.std.proofs.Common.{arith, refl}
 use Rattle.cd_chain.specs.Chains.{without}
 use Rattle.cd_window.specs.declared.waiting.Waiting.{Waiting}
 use Rattle.cd_window.specs.Lists.{slots_in, no_key, but_key}
-use Rattle.cd_window.proofs.Listing.{Emptied, emptied, indexed_rest, filled_rest, Taken, taken}
+use Rattle.cd_window.proofs.Listing.{emptied, indexed_rest, filled_rest, taken}
 use Rattle.cd_window.proofs.waiting.Waiting.remove.Goals as goal
 
 pub remove-waiter-requires : goal.remove-waiter-requires

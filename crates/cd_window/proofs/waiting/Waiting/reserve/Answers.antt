@@ -1,8 +1,8 @@
 -- a slot more changes no list
-use Rattle.std.proofs.Common.{◌≡◌, length, refl, arith}
+use Rattle.std.proofs.Common.{refl, arith}
 use Rattle.cd_window.specs.declared.waiting.Waiting.{Waiting}
-use Rattle.cd_window.specs.Lists.{slots_in, waits_in, no_key}
-use Rattle.cd_window.proofs.Listing.{filled_kept_all, Same}
+use Rattle.cd_window.specs.Lists.{no_key}
+use Rattle.cd_window.proofs.Listing.{filled_kept_all}
 use Rattle.cd_window.proofs.Stepping.{step_slots, as_many}
 use Rattle.cd_window.proofs.waiting.Waiting.reserve.Goals as goal
 

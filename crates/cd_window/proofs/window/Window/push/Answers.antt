@@ -1,11 +1,10 @@
-use Rattle.std.proofs.Common.{◌≡◌, ℕ, ◌+◌, ◌-◌, ◌<◌, ◌≤◌, ◌^◌, false, max, ap, sym, ◌∙◌, subst, arith}
+use Rattle.std.proofs.Common.{◌≡◌, ℕ, ◌+◌, ◌<◌, ◌^◌, false, max, ap, sym, ◌∙◌, subst, arith}
 use Rattle.cd_pairing.specs.declared.keyed.Side.TheVariants.{Query, Response}
 use Rattle.cd_window.specs.declared.stamps.Stamp.{Stamp}
 use Rattle.cd_window.specs.Seen.{Seen, is_ready}
 use Rattle.cd_window.specs.Pushes.{IsPushed}
 use Rattle.cd_window.specs.History.{StandsFor}
 use Rattle.cd_window.specs.Keeping.{Keeps}
-use Rattle.cd_window.specs.Lists.{KeepsWaiting}
 use Rattle.cd_window.proofs.Admitted.{joins_among, admit_facts}
 use Rattle.cd_window.proofs.Pushed.{can_join}
 use Rattle.cd_window.proofs.Pushing.{pushed_stands}
