@@ -15,13 +15,13 @@ use Rattle.cd_window.specs.Keeping.{StampsRise}
 use Rattle.cd_window.specs.Laws.{WindowsCloseInOrder, OpenWereOpen}
 
 -- the parts of a window that is open
-record Waits (windows : Windows) (count clock weight_sum : ℕ) (s : StampedEvent) : Type 0 where
-  near : count - s.index < windows.count
-  time : clock - s.clock ≤ timeout windows s.view.side
-  light : weight_sum - s.weight_sum + s.view.weight + LEAST_WEIGHT ≤ windows.bytes
+pub record OpenParts (windows : Windows) (count clock weight_sum : ℕ) (s : StampedEvent) : Type 0 where
+  pub near : count - s.index < windows.count
+  pub time : clock - s.clock ≤ timeout windows s.view.side
+  pub light : weight_sum - s.weight_sum + s.view.weight + LEAST_WEIGHT ≤ windows.bytes
 
-waits : (windows : Windows) (count clock weight_sum : ℕ) (s : StampedEvent) → waits_after windows count clock weight_sum s ≡ true → Waits windows count clock weight_sum s
-waits windows count clock weight_sum s h =
+pub open_parts : (windows : Windows) (count clock weight_sum : ℕ) (s : StampedEvent) → waits_after windows count clock weight_sum s ≡ true → OpenParts windows count clock weight_sum s
+open_parts windows count clock weight_sum s h =
     let near : Bool = ltb (count - s.index) windows.count in
     let time : Bool = leb (clock - s.clock) (timeout windows s.view.side) in
     let light : Bool = leb (weight_sum - s.weight_sum + s.view.weight + LEAST_WEIGHT) windows.bytes in
@@ -33,15 +33,15 @@ waits windows count clock weight_sum s h =
       light = leb-true (weight_sum - s.weight_sum + s.view.weight + LEAST_WEIGHT) windows.bytes outer.1;
     }
 
-waits_from : (windows : Windows) (count clock weight_sum : ℕ) (s : StampedEvent) → Waits windows count clock weight_sum s → waits_after windows count clock weight_sum s ≡ true
-waits_from windows count clock weight_sum s W = and_from _ _ (and_from _ _ (lt-ltb _ _ W.near) (le-leb _ _ W.time)) (le-leb _ _ W.light)
+pub open_from : (windows : Windows) (count clock weight_sum : ℕ) (s : StampedEvent) → OpenParts windows count clock weight_sum s → waits_after windows count clock weight_sum s ≡ true
+open_from windows count clock weight_sum s W = and_from _ _ (and_from _ _ (lt-ltb _ _ W.near) (le-leb _ _ W.time)) (le-leb _ _ W.light)
 
 -- where an event stands among stamps that rise
-record Stands {E : Type 0} (view : E → EventView) (c s : ℕ) (b : Held E) (lc ls : ℕ) : Type 0 where
-  clock : c ≤ b.clock
-  sum : s + (view b.event).weight ≤ b.weight_sum
-  last_clock : b.clock ≤ lc
-  last_sum : b.weight_sum ≤ ls
+pub record Stands {E : Type 0} (view : E → EventView) (c s : ℕ) (b : Held E) (lc ls : ℕ) : Type 0 where
+  pub clock : c ≤ b.clock
+  pub sum : s + (view b.event).weight ≤ b.weight_sum
+  pub last_clock : b.clock ≤ lc
+  pub last_sum : b.weight_sum ≤ ls
 
 top : {E : Type 0} (view : E → EventView) (c s : ℕ) (hs : List (Option (Held E))) (lc ls : ℕ) → StampsRise view c s hs lc ls → (c ≤ lc) × (s ≤ ls)
 top view c s [] lc ls h = h
@@ -54,7 +54,7 @@ top view c s (Some x ∷ hs) lc ls h =
     let v = t.1 in
     (omega arith, omega arith)
 
-stands : {E : Type 0} (view : E → EventView) (c s : ℕ) (hs : List (Option (Held E))) (l : ℕ) (b : Held E) (lc ls : ℕ) → get_or hs l None ≡ Some b → StampsRise view c s hs lc ls → Stands view c s b lc ls
+pub stands : {E : Type 0} (view : E → EventView) (c s : ℕ) (hs : List (Option (Held E))) (l : ℕ) (b : Held E) (lc ls : ℕ) → get_or hs l None ≡ Some b → StampsRise view c s hs lc ls → Stands view c s b lc ls
 stands view c s [] zero b lc ls e h = absurd (none-some b e)
 stands view c s [] (suc l) b lc ls e h = absurd (none-some b e)
 stands view c s (None ∷ hs) zero b lc ls e h = absurd (none-some b e)
@@ -98,7 +98,7 @@ between view c s (Some x ∷ hs) (suc k) (suc l) a b lc ls lt ea eb h = between 
 
 pub windows_close_in_order : {E : Type 0} (view : E → EventView) → WindowsCloseInOrder view
 windows_close_in_order {E} view w k l a b R lt ea eb side opens =
-    let W = waits w.windows (count_of w) w.clock w.weight_sum (stamped view (w.first + k) a) opens in
+    let W = open_parts w.windows (count_of w) w.clock w.weight_sum (stamped view (w.first + k) a) opens in
     let t = between view 0 0 w.held k l a b w.clock w.weight_sum lt ea eb R in
     let near : count_of w - (w.first + k) < w.windows.count = W.near in
     let time : w.clock - a.clock ≤ timeout w.windows (view a.event).side = W.time in
@@ -107,7 +107,7 @@ windows_close_in_order {E} view w k l a b R lt ea eb side opens =
     let ts = t.sum in
     let tl = t.last_sum in
     let same : timeout w.windows (view a.event).side ≡ timeout w.windows (view b.event).side = ap (timeout w.windows) side in
-    waits_from w.windows (count_of w) w.clock w.weight_sum (stamped view (w.first + l) b) (record {
+    open_from w.windows (count_of w) w.clock w.weight_sum (stamped view (w.first + l) b) (record {
       near = let x : count_of w - (w.first + l) < w.windows.count = omega arith in x;
       time = let x : w.clock - b.clock ≤ timeout w.windows (view b.event).side = omega arith in x;
       light = let x : w.weight_sum - b.weight_sum + (view b.event).weight + LEAST_WEIGHT ≤ w.windows.bytes = omega arith in x;
@@ -128,7 +128,7 @@ pushed_count {E} view w e new P = elim P.held [
 
 pub open_were_open : {E : Type 0} (view : E → EventView) → OpenWereOpen view
 open_were_open {E} view w e new P k h opens =
-    let W = waits new.windows (count_of new) new.clock new.weight_sum (stamped view (new.first + k) h) opens in
+    let W = open_parts new.windows (count_of new) new.clock new.weight_sum (stamped view (new.first + k) h) opens in
     let near : count_of new - (new.first + k) < new.windows.count = W.near in
     let time : new.clock - h.clock ≤ timeout new.windows (view h.event).side = W.time in
     let light : new.weight_sum - h.weight_sum + (view h.event).weight + LEAST_WEIGHT ≤ new.windows.bytes = W.light in
@@ -143,7 +143,7 @@ open_were_open {E} view w e new P k h opens =
           (let x : max w.clock (view e).time - h.clock ≤ timeout w.windows (view h.event).side = omega arith in x)
           (let x : count_of w - (w.first + k) < w.windows.count = omega arith in x)
           (let x : w.weight_sum + (view e).weight - h.weight_sum + (view h.event).weight ≤ w.windows.bytes = omega arith in x),
-      waits_from w.windows (count_of w) w.clock w.weight_sum (stamped view (w.first + k) h) (record {
+      open_from w.windows (count_of w) w.clock w.weight_sum (stamped view (w.first + k) h) (record {
         near = let x : count_of w - (w.first + k) < w.windows.count = omega arith in x;
         time = let x : w.clock - h.clock ≤ timeout w.windows (view h.event).side = omega arith in x;
         light = let x : w.weight_sum - h.weight_sum + (view h.event).weight + LEAST_WEIGHT ≤ w.windows.bytes = omega arith in x;

@@ -4,10 +4,9 @@ use Rattle.std.specs.Prelude.{is_some, is_none}
 use Rattle.std.specs.List.{sum_by}
 use Rattle.std.proofs.lemmas.Bool.{cases_lt, cases_eq, and_parts, true≢false}
 use Rattle.std.proofs.lemmas.Option.{none-some}
-use Rattle.std.proofs.lemmas.List.{length_push, get_or_append_left, get_or_push, get_or-set_same, get_or-set_other, set-append_left}
+use Rattle.std.proofs.lemmas.List.{length_push, get_or_append_left, get_or_push, get_or-set_same, get_or-set_other}
 use Rattle.std.proofs.lemmas.List.Sums.{sum_by_push}
 use Rattle.cd_pairing.specs.declared.keyed.TheConstants.{LEAST_WEIGHT}
-use Rattle.cd_pairing.specs.declared.keyed.Windows.{Windows}
 use Rattle.cd_pairing.specs.Events.{EventView}
 use Rattle.cd_pairing.specs.Pairing.{StampedEvent, may_pair}
 use Rattle.cd_window.specs.declared.held.Held.{Held}
@@ -15,7 +14,7 @@ use Rattle.cd_window.specs.declared.stamps.Stamp.{Stamp}
 use Rattle.cd_window.specs.Seen.{Seen, count_of, held_at, stamped, weight_held}
 use Rattle.cd_window.specs.Pushes.{next_held, with_partner, NoneFitsBefore, IsPushed}
 use Rattle.cd_window.specs.Keeping.{StampsRise, IsMated, Keeps}
-use Rattle.cd_window.specs.Places.{with_stamp, place_at, place_fits, NothingFits, FirstFits, PutsPaired, PutsAlone, Puts}
+use Rattle.cd_window.specs.Places.{with_stamp, place_at, place_fits, NothingFits, PutsPaired, PutsAlone, Puts}
 use Rattle.cd_window.proofs.Counting.{same_sum}
 use Rattle.cd_window.proofs.Popped.{place_within}
 use Rattle.cd_window.proofs.Rising.{rises_push, rises_same}
@@ -231,34 +230,3 @@ push_facts view w count weight e next new K N heavy light P = elim P [
   | inl Q ↦ put_paired view w count weight e next new K N heavy light Q
   | inr Q ↦ put_alone view w count weight e next new K N heavy light Q
 ]
-
--- what fits is held
-record WasHeld {E : Type 0} (o : Option (Held E)) : Type 0 where
-  was : Held E
-  is : o ≡ Some was
-
-fits_held : {E : Type 0} (view : E → EventView) (windows : Windows) (position : ℕ) (o : Option (Held E)) (s : StampedEvent) → place_fits view windows position o s ≡ true → WasHeld o
-fits_held view windows position None s h = absurd (true≢false (sym h))
-fits_held view windows position (Some x) s h = record { was = x; is = refl }
-
--- where the next event is held and then the partner of the first that fits is noted
-pub puts_paired : {E : Type 0} (view : E → EventView) (windows : Windows) (first : ℕ) (old mid new : List (Option (Held E))) (e : E) (next : Stamp) (k : ℕ) → FirstFits view windows first old (with_stamp (view e) next) k →
-    mid ≡ old ++ Some (record { event = e; clock = next.clock; weight_sum = next.weight_sum; partner = Some (first + k) }) ∷ [] →
-    ((h : Held E) → place_at mid k ≡ Some h → new ≡ set mid k (Some (with_partner h next.index))) → Puts view windows first old e next new
-puts_paired {E} view windows first old mid new e next k F em en =
-    let x : Held E = record { event = e; clock = next.clock; weight_sum = next.weight_sum; partner = Some (first + k) } in
-    let H = fits_held view windows (first + k) (place_at old k) (with_stamp (view e) next) F.fits in
-    let there : place_at mid k ≡ Some H.was = ap (λ (xs : List (Option (Held E))). place_at xs k) em ∙ get_or_append_left old (Some x ∷ []) None k F.within ∙ H.is in
-    inl (record {
-      place = k;
-      was = H.was;
-      fits = F;
-      there = H.is;
-      left = en H.was there ∙ ap (λ (xs : List (Option (Held E))). set xs k (Some (with_partner H.was next.index))) em ∙ set-append_left old (Some x ∷ []) k (Some (with_partner H.was next.index)) F.within;
-    })
-
--- what fits is held in the longer list too
-pub fits_there : {E : Type 0} (view : E → EventView) (windows : Windows) (first : ℕ) (old mid : List (Option (Held E))) (next : StampedEvent) (k : ℕ) (x : Held E) → FirstFits view windows first old next k → mid ≡ old ++ Some x ∷ [] → is_some (place_at mid k) ≡ true
-fits_there {E} view windows first old mid next k x F em =
-    let H = fits_held view windows (first + k) (place_at old k) next F.fits in
-    ap (λ (xs : List (Option (Held E))). is_some (place_at xs k)) em ∙ ap is_some (get_or_append_left old (Some x ∷ []) None k F.within ∙ H.is)

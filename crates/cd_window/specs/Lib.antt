@@ -6,3 +6,8 @@ pub mod History
 pub mod Laws
 pub mod Keeping
 pub mod Places
+pub mod Keys
+pub mod Waiting
+pub mod Lists
+pub mod ByKey
+pub mod Joining

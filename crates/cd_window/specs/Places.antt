@@ -1,6 +1,7 @@
 -- Scaffolding, which only contracts of private functions cite: places one by one.
-use Rattle.std.specs.Prelude.{◌≡◌, ℕ, ◌+◌, ◌<◌, ◌≤◌, Bool, true, false, not, ◌&&◌, ◌||◌, [], ◌∷◌, ◌++◌, length}
-use Rattle.std.specs.Prelude.{drop, Option, Some, None, is_some, is_none, slice_index_or, slice_set, ◌⊎◌, ◌≢◌}
+use Rattle.std.specs.Prelude.{◌≡◌, ℕ, ◌+◌, ◌-◌, ◌<◌, ◌≤◌, Bool, true, false, not, ◌&&◌, ◌||◌, [], ◌∷◌, ◌++◌, length}
+use Rattle.std.specs.Prelude.{drop, Option, Some, None, is_some, is_none, IsSome, slice_index_or, slice_set, ◌⊎◌, ◌≢◌}
+use Rattle.cd_pairing.specs.declared.keyed.Side.{Side}
 use Rattle.cd_pairing.specs.declared.keyed.Windows.{Windows}
 use Rattle.cd_pairing.specs.Events.{EventView}
 use Rattle.cd_pairing.specs.Pairing.{StampedEvent, may_pair}
@@ -12,6 +13,15 @@ use Rattle.cd_window.specs.declared.released.Released.TheVariants.{One}
 use Rattle.cd_window.specs.Seen.{Places, stamped, waits_after}
 use Rattle.cd_window.specs.Pops.{in_order}
 use Rattle.cd_window.specs.Pushes.{with_partner}
+
+-- an event of this side and weight with this stamp, as far as windows ask for it
+abbrev pub weighed : Side → Stamp → ℕ → StampedEvent
+weighed side s weight = record {
+  view = record { side = side; time = 0; weight = weight; primary = []; secondary = None };
+  index = s.index;
+  clock = s.clock;
+  weight_sum = s.weight_sum;
+}
 
 -- an event with this stamp
 abbrev pub with_stamp : EventView → Stamp → StampedEvent
@@ -104,3 +114,20 @@ pub record PutsAlone {E : Type 0} (view : E → EventView) (windows : Windows) (
 abbrev pub Puts : {E : Type 0} → (E → EventView) → Windows → ℕ → Places E → E → Stamp → Places E → Type 0
 Puts view windows first old e next new =
     PutsPaired view windows first old e next new ⊎ PutsAlone view windows first old e next new
+
+-- the next event is held after the others, with this partner
+abbrev pub held_next : {E : Type 0} → Places E → E → Stamp → Option ℕ → Places E
+held_next held e next partner =
+    held ++ Some (record { event = e; clock = next.clock; weight_sum = next.weight_sum; partner = partner }) ∷ []
+
+-- the next event is held, and is the partner of what is held at its partner's position
+pub record HoldsNext {E : Type 0} (first : ℕ) (old : Places E) (e : E) (next : Stamp) (partner : Option ℕ)
+    (new : Places E) : Type 0 where
+  pub alone : partner ≡ None → new ≡ held_next old e next None
+  pub paired : (k : ℕ) (h : Held E) → partner ≡ Some (first + k) → place_at old k ≡ Some h →
+      new ≡ held_next (slice_set old k (Some (with_partner h next.index))) e next (Some (first + k))
+
+-- a partner, where there is one, is held
+abbrev pub IsAmong : {E : Type 0} → ℕ → Places E → Option ℕ → Type 0
+IsAmong first held None = Unit {0}
+IsAmong first held (Some i) = (first ≤ i) × IsSome (place_at held (i - first))

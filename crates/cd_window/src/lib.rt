@@ -16,10 +16,15 @@
 #![tactic(auto)]
 
 mod held;
+mod joining;
+mod key;
 pub mod laws;
+mod lists;
 mod places;
 mod released;
 mod stamps;
+mod waiter;
+mod waiting;
 mod window;
 
 pub use released::Released;

@@ -1,17 +1,18 @@
-ghost use Rattle.std.specs.Prelude.{◌≡◌, ◌<◌, ◌≤◌, ◌+◌, ◌^◌, ℕ, length, map, slice_set, [], ◌∷◌, ◌++◌};
-ghost use Rattle.std.specs.Prelude.{Some, None, IsSome, MatchOption, OnOk, OnErr, IfErr, nat_lt, is_none, ◌&&◌};
-ghost use Rattle.cd_window.specs.Places.{with_stamp, place_at, place_fits, NothingFits, FirstFits};
+ghost use Rattle.std.specs.Prelude.{◌≡◌, ◌<◌, ◌≤◌, ◌+◌, ℕ, length, slice_set, [], ◌∷◌, ◌++◌};
+ghost use Rattle.std.specs.VecDeque.{deque_len, deque_capacity};
+ghost use Rattle.std.specs.Prelude.{Some, None, IsSome, MatchOption, nat_lt, is_none, ◌&&◌};
+ghost use Rattle.cd_window.specs.Places.{place_at, IsAmong, HoldsNext};
 ghost use Rattle.cd_window.specs.declared.released.Released.TheVariants.{One};
 ghost use Rattle.cd_window.specs.Pops.{in_order};
-ghost use Rattle.cd_window.specs.Places.{Dropped, Trims, Takes, Puts};
+ghost use Rattle.cd_window.specs.Places.{Dropped, Trims, Takes};
 ghost use Rattle.cd_window.specs.Keeping.{IsMated};
 ghost use Rattle.cd_window.specs.Pushes.{with_partner};
 
 use crate::Released;
 use crate::held::Held;
 use crate::released::in_order;
-use crate::stamps::{Stamp, may_pair};
-use cd_pairing::{Keyed, Windows};
+use crate::stamps::Stamp;
+use cd_pairing::Keyed;
 use std::collections::VecDeque;
 
 // What is held at a place.
@@ -25,48 +26,6 @@ pub(crate) fn held_at<E>(places: &VecDeque<Option<Held<E>>>, k: usize) -> Option
         Some(None) => None,
         None => None,
     }
-}
-
-fn fits_at<E: Keyed>(
-    windows: &Windows,
-    first: u64,
-    places: &VecDeque<Option<Held<E>>>,
-    k: usize,
-    event: &E,
-    next: Stamp,
-) -> bool
-    requires { first + k < 2 ^ 64 }
-    ensures { result ≡ place_fits E.view windows.now (first + k) (place_at places.now.items k)
-        (with_stamp (E.view event.now) next) }
-{
-    match held_at(places, k) {
-        Some(held) => {
-            held.partner.is_none() && may_pair(windows, first + k as u64, held, event, next)
-        }
-        None => false,
-    }
-}
-
-// The first place at which an unpaired event is held that may stand with the next one.
-fn earliest_fit<E: Keyed>(
-    windows: &Windows,
-    first: u64,
-    places: &VecDeque<Option<Held<E>>>,
-    event: &E,
-    next: Stamp,
-) -> Option<usize>
-    requires { first + length places.now.items < 2 ^ 63 }
-    ensures { MatchOption result
-        (NothingFits E.view windows.now first places.now.items (with_stamp (E.view event.now) next)
-        (length places.now.items))
-        (FirstFits E.view windows.now first places.now.items (with_stamp (E.view event.now) next)) }
-{
-    'places: for k in 0..places.len() {
-        if fits_at(windows, first, places, k, event, next) {
-            return Some(k);
-        }
-    }
-    None
 }
 
 // Takes what is held at a place out of it.
@@ -100,71 +59,38 @@ fn set_partner<E: Drop>(places: &mut VecDeque<Option<Held<E>>>, k: usize, partne
     }
 }
 
-// The event that a refused place was to hold.
-fn event_of<E>(refused: Option<Held<E>>) -> E
-    requires { IsSome refused }
-    ensures { (h : _) → refused ≡ Some h → result ≡ h.event }
-{
-    match refused {
-        Some(held) => held.event,
-        None => unreachable!(),
-    }
-}
-
-// Holds one event more, and hands it back where memory runs out.
-fn hold<E>(places: &mut VecDeque<Option<Held<E>>>, held: Held<E>) -> Result<(), E>
-    ensures held { OnOk result (places.new.items ≡ places.old.items ++ Some held ∷ []) }
-    ensures handed_back { IfErr result (λ e. e ≡ held.event) }
-    ensures unchanged { OnErr result (places.new.items ≡ places.old.items) }
+// Holds one event more, for which there is room.
+fn push_held<E: Drop>(places: &mut VecDeque<Option<Held<E>>>, held: Held<E>)
+    requires { deque_len places.old < deque_capacity places.old }
+    ensures { places.new.items ≡ places.old.items ++ Some held ∷ [] }
 {
     match places.push_back(Some(held)) {
-        Ok(()) => Ok(()),
-        Err(refused) => Err(event_of(refused.value)),
+        Ok(()) => {}
+        Err(_) => unreachable!(),
     }
 }
 
-// Holds the next event, paired with the earliest that may stand with it, and hands it back where memory runs out.
-pub(crate) fn put<E: Keyed + Drop>(
-    windows: &Windows,
+// Holds the next event, for which there is room, with the partner that it has met.
+pub(crate) fn hold_next<E: Drop>(
     first: u64,
     places: &mut VecDeque<Option<Held<E>>>,
     event: E,
     next: Stamp,
-) -> Result<(), E>
-    requires { first + length places.old.items < 2 ^ 63 }
-    ensures put { OnOk result
-        (Puts E.view windows.now first places.old.items event next places.new.items) }
-    ensures handed_back { IfErr result (λ e. e ≡ event) }
-    ensures unchanged { OnErr result (places.new.items ≡ places.old.items) }
+    met: Option<u64>,
+)
+    requires room { deque_len places.old < deque_capacity places.old }
+    requires among { IsAmong first places.old.items met }
+    ensures { HoldsNext first places.old.items event next met places.new.items }
 {
-    let Stamp {
-        clock,
-        weight_sum,
-        ..
-    } = next;
-    match earliest_fit(windows, first, places, &event, next) {
-        None => hold(
-            places,
-            Held {
-                event,
-                clock,
-                weight_sum,
-                partner: None,
-            },
-        ),
-        Some(k) => {
-            let held = Held {
-                event,
-                clock,
-                weight_sum,
-                partner: Some(first + k as u64),
-            };
-            if let Err(refused) = hold(places, held) {
-                return Err(refused);
-            }
-            set_partner(places, k, next.index);
-            Ok(())
-        }
+    let held = Held {
+        event,
+        clock: next.clock,
+        weight_sum: next.weight_sum,
+        partner: met,
+    };
+    push_held(places, held);
+    if let Some(position) = met {
+        set_partner(places, (position - first) as usize, next.index);
     }
 }
 

@@ -1,11 +1,12 @@
 ghost use Rattle.std.specs.Prelude.{◌≡◌};
-ghost use Rattle.cd_pairing.specs.Events.{are_opposite, secondaries_agree};
-ghost use Rattle.cd_pairing.specs.Pairing.{timeout, identifiers_agree, is_in_window, may_pair};
+ghost use Rattle.cd_pairing.specs.Pairing.{timeout};
 ghost use Rattle.cd_pairing.specs.Settling.{is_neither};
 ghost use Rattle.cd_window.specs.Seen.{stamped, waits_after};
-ghost use Rattle.cd_window.specs.Places.{with_stamp, is_settled};
+ghost use Rattle.cd_window.specs.Places.{weighed, is_settled};
+ghost use Rattle.cd_window.specs.Waiting.{waits_of, waits_still};
 
 use crate::held::Held;
+use crate::waiter::Waiter;
 use cd_pairing::{Keyed, LEAST_WEIGHT, Side, Windows};
 
 // A position, with the clock and the sum of weights there.
@@ -26,87 +27,29 @@ fn timeout(windows: &Windows, side: Side) -> u64
     }
 }
 
-fn are_opposite(a: Side, b: Side) -> bool
-    ensures { result ≡ are_opposite a b }
+// After `now.index` events: whether one more of the least weight could stand with one of this side and weight that came
+// with this stamp.
+fn waits_after(windows: &Windows, now: Stamp, side: Side, then: Stamp, weight: u64) -> bool
+    ensures { result ≡ waits_after windows.now now.index now.clock now.weight_sum (weighed side then weight) }
 {
-    match (a, b) {
-        (Side::Query, Side::Response) => true,
-        (Side::Response, Side::Query) => true,
-        _ => false,
-    }
-}
-
-fn secondaries_agree<E: Keyed>(a: &E, b: &E) -> bool
-    ensures { result ≡ secondaries_agree (E.view a.now).secondary (E.view b.now).secondary }
-{
-    match a.secondary() {
-        None => true,
-        Some(x) => match b.secondary() {
-            None => true,
-            Some(y) => x == y,
-        },
-    }
-}
-
-fn identifiers_agree<E: Keyed>(a: &E, b: &E) -> bool
-    ensures { result ≡ identifiers_agree (E.view a.now) (E.view b.now) }
-{
-    a.primary() == b.primary() && secondaries_agree(a, b)
-}
-
-// Whether the next event comes while what is held at this position still waits.
-#[tactic(auto, unfolding(cd_pairing::specs::Pairing::is_in_window))]
-fn is_in_window<E: Keyed>(
-    windows: &Windows,
-    position: u64,
-    held: &Held<E>,
-    event: &E,
-    next: Stamp,
-) -> bool
-    ensures { result ≡ is_in_window windows.now
-        (stamped E.view position held.now) (with_stamp (E.view event.now) next) }
-{
-    let passed = next.weight_sum.saturating_sub(held.weight_sum);
-    next.clock.saturating_sub(held.clock) <= timeout(windows, held.event.side())
-        && next.index.saturating_sub(position) < windows.count
-        && passed <= windows.bytes
-        && held.event.weight() <= windows.bytes - passed
-}
-
-// Whether what is held at this position may stand with the next event.
-#[tactic(auto, unfolding(cd_pairing::specs::Pairing::may_pair))]
-pub(crate) fn may_pair<E: Keyed>(
-    windows: &Windows,
-    position: u64,
-    held: &Held<E>,
-    event: &E,
-    next: Stamp,
-) -> bool
-    ensures { result ≡ may_pair windows.now
-        (stamped E.view position held.now) (with_stamp (E.view event.now) next) }
-{
-    are_opposite(held.event.side(), event.side())
-        && identifiers_agree(&held.event, event)
-        && is_in_window(windows, position, held, event, next)
-}
-
-// After `now.index` events: whether one more of the least weight could stand with what is held at this position.
-pub(crate) fn waits_after<E: Keyed>(
-    windows: &Windows,
-    now: Stamp,
-    position: u64,
-    held: &Held<E>,
-) -> bool
-    ensures { result ≡ waits_after windows.now now.index now.clock now.weight_sum
-        (stamped E.view position held.now) }
-{
-    let passed = now.weight_sum.saturating_sub(held.weight_sum);
-    let weight = held.event.weight();
-    now.index.saturating_sub(position) < windows.count
-        && now.clock.saturating_sub(held.clock) <= timeout(windows, held.event.side())
+    let passed = now.weight_sum.saturating_sub(then.weight_sum);
+    now.index.saturating_sub(then.index) < windows.count
+        && now.clock.saturating_sub(then.clock) <= timeout(windows, side)
         && passed <= windows.bytes
         && weight <= windows.bytes - passed
         && LEAST_WEIGHT <= windows.bytes - passed - weight
+}
+
+// The same of an event that waits.
+pub(crate) fn waits_still(windows: &Windows, side: Side, now: Stamp, waiter: &Waiter) -> bool
+    ensures { result ≡ waits_still windows.now side now (waits_of waiter.now) }
+{
+    let then = Stamp {
+        index: waiter.position,
+        clock: waiter.clock,
+        weight_sum: waiter.weight_sum,
+    };
+    waits_after(windows, now, side, then, waiter.weight)
 }
 
 fn is_neither(side: Side) -> bool
@@ -127,7 +70,13 @@ pub(crate) fn is_settled<E: Keyed>(
 ) -> bool
     ensures { result ≡ is_settled windows.now now (stamped E.view position held.now) held.now.partner }
 {
-    is_neither(held.event.side())
+    let then = Stamp {
+        index: position,
+        clock: held.clock,
+        weight_sum: held.weight_sum,
+    };
+    let side = held.event.side();
+    is_neither(side)
         || held.partner.is_some()
-        || !waits_after(windows, now, position, held)
+        || !waits_after(windows, now, side, then, held.event.weight())
 }

@@ -10,9 +10,11 @@ ghost use Rattle.cd_window.specs.History.{StandsFor, listed, events_in, weight_i
 
 use crate::Released;
 use crate::held::Held;
-use crate::places::{held_at, put, take_front, trim};
+use crate::joining::admit;
+use crate::places::{held_at, take_front, trim};
 use crate::released::{events_in, weight_in};
 use crate::stamps::{Stamp, is_settled};
+use crate::waiting::Waiting;
 use cd_pairing::{Keyed, Windows};
 use std::alloc::{AllocError, Global};
 use std::collections::VecDeque;
@@ -33,12 +35,16 @@ pub struct Window<E: Keyed> {
     // How many events are held, and their weight.
     count: u64,
     weight: u64,
+    // By side, the events that are held, are unpaired and have open windows.
+    queries: Waiting,
+    responses: Waiting,
 }
 
 impl<E: Keyed> Model for Window<E> {
     ghost use Rattle.cd_window.specs.Seen.{Seen};
     ghost use Rattle.cd_window.specs.SeenCode.{seen_code};
     ghost use Rattle.cd_window.specs.Keeping.{Keeps};
+    ghost use Rattle.cd_window.specs.Lists.{KeepsWaiting};
 
     ghost Value = { Seen E };
 
@@ -53,14 +59,14 @@ impl<E: Keyed> Model for Window<E> {
       held = a.places.items;
     } };
 
-    ghost invariant = { λ a. Keeps E.view (record {
+    ghost invariant = { λ a. let w : Seen E = record {
       windows = a.windows;
       finished = a.finished;
       first = a.first;
       clock = a.clock;
       weight_sum = a.weight_sum;
       held = a.places.items;
-    }) a.count a.weight };
+    } in Keeps E.view w a.count a.weight × KeepsWaiting E.view w a.queries a.responses };
 }
 
 impl<E: Keyed + Drop> Window<E> {
@@ -72,6 +78,8 @@ impl<E: Keyed + Drop> Window<E> {
         ensures empty { IfOk result (λ w. w ≡ empty_window windows) }
         ensures stands { IfOk result (λ w. StandsFor E.view w [] []) }
     {
+        let queries = Waiting::new(alloc)?;
+        let responses = Waiting::new(alloc)?;
         Ok(Window {
             windows,
             finished: false,
@@ -81,6 +89,8 @@ impl<E: Keyed + Drop> Window<E> {
             places: VecDeque::new(alloc),
             count: 0,
             weight: 0,
+            queries,
+            responses,
         })
     }
 
@@ -105,7 +115,15 @@ impl<E: Keyed + Drop> Window<E> {
             weight_sum: self.weight_sum + event.weight(),
         };
         let weight = event.weight();
-        if let Err(refused) = put(&self.windows, self.first, &mut self.places, event, next) {
+        if let Err(refused) = admit(
+            &self.windows,
+            self.first,
+            &mut self.places,
+            &mut self.queries,
+            &mut self.responses,
+            event,
+            next,
+        ) {
             return Err(refused);
         }
         self.clock = next.clock;
@@ -126,6 +144,8 @@ impl<E: Keyed + Drop> Window<E> {
         if !self.ready() {
             return None;
         }
+        self.queries.take_front(self.first);
+        self.responses.take_front(self.first);
         let record = take_front(self.first, &mut self.places);
         self.first += trim(&mut self.places);
         self.count -= events_in(&record);
