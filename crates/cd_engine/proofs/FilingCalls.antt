@@ -1,5 +1,6 @@
 -- What the calls of a filing leave of it, over the parts that it keeps.
-use Rattle.std.proofs.Common.{◌≡◌, ℕ, ◌+◌, ◌-◌, ◌^◌, ◌≤◌, List, [], ◌∷◌, ◌++◌, length, map, refl, ap, sym, ◌∙◌, subst, arith}
+use Rattle.std.proofs.Common.{◌≡◌, ℕ, ◌+◌, ◌-◌, ◌^◌, ◌≤◌, List, [], ◌∷◌, ◌++◌, length, map, Result, Ok, Err, refl, ap, sym, ◌∙◌, subst, arith}
+use Rattle.std.specs.Prelude.{IfOk, OnOk}
 use Rattle.std.specs.List.{concat}
 use Rattle.std.proofs.lemmas.List.{append-nil}
 use Rattle.cd_block.specs.Tables.{indexed}
@@ -17,6 +18,15 @@ use Rattle.cd_engine.specs.Counting.{held_in_64, no_record_counts}
 use Rattle.cd_engine.specs.Filing.{Filed, nothing_filed, counts_with, with_block, with_last, filed_more}
 use Rattle.cd_engine.specs.declared.counts.RecordCounts.{RecordCounts}
 use Rattle.cd_engine.proofs.FilingSteps.{admits, refuses, more_joins, more_closes}
+
+-- what follows from what holds at an Ok
+pub each_ok : {T E P Q : Type 0} (r : Result T E) → OnOk r P → (P → Q) → OnOk r Q
+each_ok (Ok x) p f = f p
+each_ok (Err e) p f = p
+
+pub each_of_ok : {T E : Type 0} {P Q : T → Type 0} (r : Result T E) → IfOk r P → ((x : T) → P x → Q x) → IfOk r Q
+each_of_ok (Ok x) p f = f x p
+each_of_ok (Err e) p f = p
 
 -- what is filed, of these parts
 abbrev pub filed_of : Settings → List RecordParts → List ℕ → ℕ → RecordCounts → Filed
@@ -59,11 +69,11 @@ pub cut_filed : (s : Settings) (p new : Present) (output : List ℕ) (blocks : �
     after ≡ with_block (filed_of s new.run output blocks counted) given.records →
     after ≡ filed_more (filed_of s p.run output blocks counts) r
 cut_filed s p new output blocks counts counted r given after limits more C e =
-    let no : ¬ (IsAdmissible (limits_of s) (p.run ++ r ∷ [])) = λ a. C.not_admissible (subst (λ (l : Limits). IsAdmissible l (p.run ++ r ∷ [])) (sym limits) a) in
+    let fails : ¬ (IsAdmissible (limits_of s) (p.run ++ r ∷ [])) = λ a. C.not_admissible (subst (λ (l : Limits). IsAdmissible l (p.run ++ r ∷ [])) (sym limits) a) in
     e ∙ ap (λ (x : RunParts). with_block (filed_of s new.run output blocks counted) x.records) C.given_run
     ∙ ap (λ (x : Present). with_block (filed_of s x.run output blocks counted) p.run) C.present
     ∙ ap (λ (c : RecordCounts). with_block (filed_of s (r ∷ []) output blocks c) p.run) more
-    ∙ sym (more_closes (filed_of s p.run output blocks counts) r (refuses (limits_of s) (p.run ++ r ∷ []) no))
+    ∙ sym (more_closes (filed_of s p.run output blocks counts) r (refuses (limits_of s) (p.run ++ r ∷ []) fails))
 
 -- the last run as a block, over what the present run is
 last_of : Settings → List ℕ → ℕ → RecordCounts → List (List RecordParts) → Filed
@@ -85,8 +95,8 @@ last_none s p new output blocks counts small empty e =
     ∙ ap (λ (run : List RecordParts). last_of s output blocks counts (as_runs run)) (sym empty)
 
 as_one_run : (run : List RecordParts) → ¬ (run ≡ []) → as_runs run ≡ run ∷ []
-as_one_run [] no = absurd (no refl)
-as_one_run (r ∷ run) no = refl
+as_one_run [] some = absurd (some refl)
+as_one_run (r ∷ run) some = refl
 
 -- there was one, whose block was put at the end of the output
 pub last_some : (s : Settings) (p new : Present) (output : List ℕ) (blocks : ℕ) (counts : RecordCounts) (given : RunParts) (after : Filed) →

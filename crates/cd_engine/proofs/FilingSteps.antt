@@ -30,10 +30,10 @@ admits limits run a =
 pub refuses : (limits : Limits) (run : List RecordParts) → ¬ (IsAdmissible limits run) →
     is_admissible limits run ≡ false
 unfolding is_admissible
-refuses limits run no = false_from_ne_true _ (λ e.
+refuses limits run fails = false_from_ne_true _ (λ e.
     let first = and_parts _ _ e in
     let others = and_parts _ _ first.1 in
-    no (record {
+    fails (record {
       few_items = leb-true _ _ first.0;
       few_malformed = leb-true _ _ others.0;
       light = leb-true _ _ others.1;

@@ -4,3 +4,4 @@ pub mod Traffic
 pub mod ReleasedParts
 pub mod BlocksSteps
 pub mod Timeouts
+pub mod BlocksCalls

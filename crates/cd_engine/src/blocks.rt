@@ -130,8 +130,9 @@ impl Blocks {
         ensures lost { OnErr result (self.new.spent ≡ true) }
     {
         self.spent = true;
-        if self.window.push(event).is_err() {
-            return Err(AllocError);
+        match self.window.push(event) {
+            Ok(()) => {}
+            Err(_) => return Err(AllocError),
         }
         file_ready(&mut self.window, &mut self.filing)?;
         self.spent = false;
