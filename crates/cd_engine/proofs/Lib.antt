@@ -2,3 +2,10 @@ pub mod Weights
 pub mod OneCutting
 pub mod LightRecords
 pub mod OneFile
+pub mod FilingSteps
+pub mod FilingCalls
+pub mod Traffic
+pub mod ReleasedParts
+pub mod BlocksSteps
+pub mod Timeouts
+pub mod BlocksCalls

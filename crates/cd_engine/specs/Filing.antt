@@ -73,3 +73,11 @@ ending_of f = concat (map block_spelling (blocks_of f.settings.params (as_runs f
 -- how many blocks there are with the present run, where it has a record
 abbrev pub blocks_at_end : Filed → ℕ
 blocks_at_end f = held_in_64 (f.blocks + length (as_runs f.present))
+
+-- the present run as a block at the end of the output, where it has a record
+abbrev pub with_last : Filed → Filed
+with_last f = record f {
+  present = [];
+  output = f.output ++ concat (map block_spelling (blocks_of f.settings.params (as_runs f.present)));
+  blocks = blocks_at_end f;
+}

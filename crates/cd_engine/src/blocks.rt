@@ -1,16 +1,17 @@
 //! Events, matched and filed one by one.
 
-ghost use Rattle.std.specs.Prelude.{◌≡◌, ℕ, ◌+◌, ◌<◌, ◌≤◌, ◌^◌, true, false, List, [], ◌∷◌, ◌++◌, length, IfOk, OnOk};
+ghost use Rattle.std.specs.Prelude.{◌≡◌, ℕ, ◌+◌, ◌<◌, ◌≤◌, ◌^◌, true, false, List, [], ◌∷◌, ◌++◌, length, IfOk, OnOk, OnErr};
+ghost use Rattle.cd_hints.specs.Records.{record_parts, HasKinds};
 ghost use Rattle.cd_hints.specs.Validity.{IsValid};
 ghost use Rattle.cd_ident.specs.Events.{EventParts};
 ghost use Rattle.cd_ident.specs.Keys.{parts_of};
 ghost use Rattle.cd_ident.specs.declared.event_making.TheConstants.{GREATEST_WEIGHT};
-ghost use Rattle.cd_hints.specs.Records.{record_parts, HasKinds};
-ghost use Rattle.cd_engine.specs.Behaving.{file_of_events, closed_part_of_events, all_records, runs_of};
-ghost use Rattle.cd_engine.specs.Blocks.{released_parts, BlocksStand};
-ghost use Rattle.cd_engine.specs.Counting.{record_counts, held_in_64, held_record_counts};
-ghost use Rattle.cd_engine.specs.Records.{windows_of, single_record};
 ghost use Rattle.cd_record.specs.Runs.{limits_of};
+ghost use Rattle.cd_window.specs.Pops.{IsTrimmed};
+ghost use Rattle.cd_engine.specs.Behaving.{file_of_events, closed_part_of_events, all_records, runs_of};
+ghost use Rattle.cd_engine.specs.Blocks.{released_parts, HoldsTraffic, BlocksStand, FilesReady};
+ghost use Rattle.cd_engine.specs.Counting.{held_in_64, record_counts, held_record_counts};
+ghost use Rattle.cd_engine.specs.Records.{windows_of, single_record};
 
 use crate::filing::{FiledRecords, Filing};
 use cd_hints::{Rec, Settings};
@@ -30,14 +31,18 @@ pub(crate) struct Blocks {
 }
 
 impl Model for Blocks {
+    ghost use Rattle.std.specs.Coded.{codes};
     ghost use Rattle.std.specs.Prelude.{◌≡◌, false};
+    ghost use Rattle.cd_ident.specs.contracts.event.Event as event;
     ghost use Rattle.cd_engine.specs.Blocks.{BlocksSeen, IsDrained};
 
     ghost Value = { BlocksSeen };
 
+    ghost coded = { Prim.hlevel (codes, event.the_row.coded) };
+
     ghost view = { λ b. record { window = b.window; filing = b.filing; spent = b.spent } };
 
-    ghost invariant = { λ b. b.spent ≡ false → IsDrained (record { window = b.window; filing = b.filing; spent = b.spent }) };
+    ghost invariant = { λ b. b.spent ≡ false → IsDrained b.window b.filing };
 }
 
 // The windows of these settings.
@@ -82,6 +87,20 @@ fn record_of(released: Released<Event>) -> Rec
     }
 }
 
+// Pops and files each record that is ready by now.
+fn file_ready(window: &mut Window<Event>, filing: &mut Filing) -> Result<(), AllocError>
+    requires trimmed { IsTrimmed window.old }
+    requires traffic { HoldsTraffic window.old }
+    ensures { OnOk result (FilesReady window.old filing.old window.new filing.new) }
+{
+    'ready: loop {
+        match window.pop() {
+            None => return Ok(()),
+            Some(released) => filing.push(record_of(released))?,
+        }
+    }
+}
+
 impl Blocks {
     /// No event, under valid settings. The head of the file is ready.
     pub(crate) fn new(alloc: Global, settings: Settings) -> Result<Blocks, AllocError>
@@ -98,16 +117,6 @@ impl Blocks {
         })
     }
 
-    // Files each record that is released by now.
-    fn file_released(&mut self) -> Result<(), AllocError> {
-        'released: loop {
-            match self.window.pop() {
-                None => return Ok(()),
-                Some(released) => self.filing.push(record_of(released))?,
-            }
-        }
-    }
-
     /// Takes the next event, which weighs no more than that of a datagram. All events weigh less than 2^63 together.
     pub(crate) fn push(&mut self, event: Event) -> Result<(), AllocError>
         requires fresh { self.old.spent ≡ false }
@@ -118,12 +127,14 @@ impl Blocks {
         ensures settings { OnOk result (self.new.filing.settings ≡ self.old.filing.settings) }
         ensures sum { OnOk result (self.new.window.weight_sum ≡ self.old.window.weight_sum + event.weight) }
         ensures fresh { OnOk result (self.new.spent ≡ false) }
+        ensures lost { OnErr result (self.new.spent ≡ true) }
     {
         self.spent = true;
-        if self.window.push(event).is_err() {
-            return Err(AllocError);
+        match self.window.push(event) {
+            Ok(()) => {}
+            Err(_) => return Err(AllocError),
         }
-        self.file_released()?;
+        file_ready(&mut self.window, &mut self.filing)?;
         self.spent = false;
         Ok(())
     }
@@ -176,9 +187,13 @@ impl Blocks {
             f.counts ≡ held_record_counts (record_counts self.filing.settings.params.rr_types
             (all_records self.filing.settings events))) }
     {
-        let mut blocks = self;
-        blocks.window.finish();
-        blocks.file_released()?;
-        blocks.filing.finish()
+        let Blocks {
+            mut window,
+            mut filing,
+            ..
+        } = self;
+        window.finish();
+        file_ready(&mut window, &mut filing)?;
+        filing.finish()
     }
 }

@@ -69,13 +69,14 @@ pub(crate) const NO_RECORD_COUNTS: RecordCounts = RecordCounts {
 pub(crate) fn counts_of(packets: PacketCounts, records: RecordCounts, blocks: u64, cut: bool) -> Counts
     ensures { result ≡ counts_of packets records blocks cut }
 {
+    let skipped = packets.skipped;
     Counts {
         packets: packets.packets,
         queries: packets.queries,
         responses: packets.responses,
         malformed: packets.malformed,
         discarded: packets.discarded,
-        skipped: packets.skipped,
+        skipped,
         dropped: records.dropped,
         blocks,
         items: records.items,

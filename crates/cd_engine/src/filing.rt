@@ -4,15 +4,18 @@ ghost use Rattle.std.specs.Prelude.{◌≡◌, [], ◌++◌, IfOk, OnOk};
 ghost use Rattle.std.specs.List.{All};
 ghost use Rattle.cd_hints.specs.Records.{record_parts, HasKinds, is_item};
 ghost use Rattle.cd_hints.specs.Validity.{IsValid};
+ghost use Rattle.cd_record.specs.Blocks.{run_parts, IsCounted, HaveKinds};
 ghost use Rattle.cd_record.specs.Laws.{IsLight, events_of};
 ghost use Rattle.cd_engine.specs.Counting.{is_pair};
-ghost use Rattle.cd_engine.specs.Filing.{one_if, counts_with, nothing_filed, filed_more, ending_of, blocks_at_end};
+ghost use Rattle.cd_engine.specs.Filing.{one_if, counts_with, nothing_filed, with_block, with_last, filed_more};
+ghost use Rattle.cd_engine.specs.Filing.{ending_of, blocks_at_end};
 
 use crate::counts::{NO_RECORD_COUNTS, RecordCounts};
 use cd_bytes::Out;
 use cd_file::{block_bytes, end_bytes, head_bytes};
 use cd_hints::{Rec, Settings, dropped};
 use cd_name::Blob;
+use cd_record::laws::one_record_is_admissible;
 use cd_record::{BlockRecords, Cutter, kept_block};
 use cd_table::build;
 use std::alloc::{AllocError, Global};
@@ -31,6 +34,7 @@ pub(crate) struct Filing {
 }
 
 impl Model for Filing {
+    ghost use Rattle.std.specs.Prelude.{◌≡◌};
     ghost use Rattle.cd_engine.specs.Filing.{Filed};
     ghost use Rattle.cd_hints.specs.Validity.{IsValid};
     ghost use Rattle.cd_record.specs.Runs.{limits_of};
@@ -104,7 +108,11 @@ impl Filing {
     }
 
     // Puts the block of a run at the end of the output.
-    fn put_block(&mut self, run: &BlockRecords) -> Result<(), AllocError> {
+    fn put_block(&mut self, run: &BlockRecords) -> Result<(), AllocError>
+        requires kinds { HaveKinds (run_parts run.now).records }
+        requires counted { IsCounted self.old.settings.params.ticks (run_parts run.now) }
+        ensures { OnOk result (self.new ≡ with_block self.old (run_parts run.now).records) }
+    {
         let kept = kept_block(self.alloc, &self.settings, run)?;
         let block = build(self.alloc, &kept)?;
         block_bytes(&block, &mut self.output)?;
@@ -118,11 +126,22 @@ impl Filing {
         requires light { All IsLight (events_of (record_parts rec)) }
         ensures { OnOk result (self.new ≡ filed_more self.old (record_parts rec)) }
     {
+        one_record_is_admissible();
         self.counts = counts_with(&self.settings, self.counts, &rec);
         match self.cutter.push(rec) {
             Ok(None) => Ok(()),
             Ok(Some(run)) => self.put_block(&run),
             Err(_) => Err(AllocError),
+        }
+    }
+
+    // Puts the block of the present run, where it has a record, at the end of the output.
+    fn put_last(&mut self) -> Result<(), AllocError>
+        ensures { OnOk result (self.new ≡ with_last self.old) }
+    {
+        match self.cutter.finish() {
+            None => Ok(()),
+            Some(run) => self.put_block(&run),
         }
     }
 
@@ -147,9 +166,7 @@ impl Filing {
         ensures counts { IfOk result (λ f. f.counts ≡ self.counts) }
     {
         let mut filing = self;
-        if let Some(run) = filing.cutter.finish() {
-            filing.put_block(&run)?;
-        }
+        filing.put_last()?;
         end_bytes(&mut filing.output)?;
         Ok(FiledRecords {
             output: Blob::from_slice(filing.alloc, filing.output.bytes())?,

@@ -10,6 +10,7 @@ use std::alloc::{AllocError, Global};
 fn params_copy(alloc: Global, params: &Params) -> Result<Params, AllocError>
     ensures { IfOk result (λ copy. copy ≡ params.now) }
 {
+    let prefixes = params.prefixes;
     Ok(Params {
         ticks: params.ticks,
         max_items: params.max_items,
@@ -17,7 +18,7 @@ fn params_copy(alloc: Global, params: &Params) -> Result<Params, AllocError>
         opcodes: params.opcodes,
         rr_types: List::from_vec(Vec::from_slice(alloc, params.rr_types.as_slice())?),
         flags: params.flags,
-        prefixes: params.prefixes,
+        prefixes,
         query_ms: params.query_ms,
         skew_us: params.skew_us,
     })
