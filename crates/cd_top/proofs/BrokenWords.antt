@@ -1,21 +1,21 @@
 -- Words that are no command line, and what a run answers to them.
-use Rattle.std.proofs.Common.{◌≡◌, ℕ, List, refl, sym, ◌∙◌, inl, inr, subst, Result, Ok, Err}
+use Rattle.std.proofs.Common.{◌≡◌, ℕ, List, refl, sym, ◌∙◌, inl, inr, subst}
 use Rattle.cd_words.specs.Commands.{HasFault}
 use Rattle.cd_words.specs.Compact.{compact}
-use Rattle.cd_words.specs.CommandLines.{IsCommandLine, BreaksAt}
+use Rattle.cd_words.specs.CommandLines.{BreaksAt}
 use Rattle.cd_words.specs.CommandLines.BreaksAt.{no_command}
 use Rattle.cd_words.specs.Laws.{LinesOrBreaks}
+use Rattle.cd_words.specs.declared.fault.WordsFault.{WordsFault}
 use Rattle.cd_words.specs.declared.fault.WordsFault.TheVariants as fault
 use Rattle.cd_ports.specs.Reading.{SourceMeaning}
 use Rattle.cd_ports.specs.Writing.{SinkMeaning}
 use Rattle.cd_top.specs.Refusing.{Refuses, RefusesWords}
-use Rattle.cd_top.specs.Statuses.{EndsAs, ComesExactly}
 use Rattle.cd_top.specs.declared.status.Status.{Status}
 use Rattle.cd_top.specs.declared.status.Status.TheVariants as status
 use Rattle.cd_top.proofs.Reporting.{unsaid}
 
 -- the place of the fault is where the words break a rule
-pub fault_breaks : (words : List (List ℕ)) (place : ℕ) → HasFault words (fault.Usage place) → BreaksAt compact words place
+fault_breaks : (words : List (List ℕ)) (place : ℕ) → HasFault words (fault.Usage place) → BreaksAt compact words place
 fault_breaks words place h = elim h [
   | inl none ↦
       let first : place ≡ 0 = usage_at place 0 none.0 in
@@ -27,13 +27,6 @@ fault_breaks words place h = elim h [
     usage_at : (m n : ℕ) → fault.Usage m ≡ fault.Usage n → m ≡ n
     usage_at m n same = cc
 
--- words that break a rule are no command line
-pub no_line : LinesOrBreaks compact → (words : List (List ℕ)) (place : ℕ) → BreaksAt compact words place → ¬ (IsCommandLine compact words)
-no_line law words place breaks line = elim (law words) [
-  | inl whole ↦ whole.1 place breaks
-  | inr broken ↦ broken.1.outside line
-]
-
 -- they break a rule at one place
 one_place : LinesOrBreaks compact → (words : List (List ℕ)) (p q : ℕ) → BreaksAt compact words p → BreaksAt compact words q → p ≡ q
 one_place law words p q here there = elim (law words) [
@@ -42,11 +35,12 @@ one_place law words p q here there = elim (law words) [
 ]
 
 -- the report says this place
-pub refused_words : LinesOrBreaks compact → (words : List (List ℕ)) (p q : ℕ) (src : SourceMeaning) (out a b : SinkMeaning) (r : Status) →
-    HasFault words (fault.Usage p) → BreaksAt compact words q → Refuses p a b r → RefusesWords q src src out out a b r
-refused_words law words p q src out a b r has there h =
+pub refused_words : LinesOrBreaks compact → (words : List (List ℕ)) (f : WordsFault) (p q : ℕ) (src : SourceMeaning) (out a b : SinkMeaning) (r : Status) →
+    f ≡ fault.Usage p → HasFault words f → BreaksAt compact words q → Refuses p a b r → RefusesWords q src src out out a b r
+refused_words law words f p q src out a b r is has there h =
     let P : ℕ → Type 0 = λ n. Refuses n a b r in
-    record { source = refl; out = refl; refuses = subst P (one_place law words p q (fault_breaks words p has) there) h }
+    let F : WordsFault → Type 0 = λ x. HasFault words x in
+    record { source = refl; out = refl; refuses = subst P (one_place law words p q (fault_breaks words p (subst F is has)) there) h }
 
 -- where memory ran out nothing is said
 pub refused_spent : (place : ℕ) (src : SourceMeaning) (out report : SinkMeaning) → RefusesWords place src src out out report report status.NoMemory
@@ -55,11 +49,3 @@ refused_spent place src out report = record {
   out = refl;
   refuses = unsaid place report;
 }
-
--- Usage comes, and rightly so
-pub usage_comes : (r : Status) (P : Type 0) → EndsAs r status.Usage → P → ComesExactly r status.Usage P
-usage_comes r P ends holds = record { only = λ same. holds; always = λ p. ends }
-
--- Usage does not come, and rightly so
-pub usage_absent : (r : Status) (P : Type 0) → (r ≡ status.Usage → ⊥) → P → ComesExactly r status.Usage (¬ P)
-usage_absent r P other line = record { only = λ same. absurd (other same); always = λ none. absurd (none line) }

@@ -1,5 +1,5 @@
 -- Each answer that the bytes taken give comes exactly where they give it.
-use Rattle.std.proofs.Common.{◌≡◌, ℕ, ◌<◌, ◌≤◌, Bool, true, false, cond, List, length, take, Option, Some, None, refl, ap, sym, ◌∙◌, arith, inl, inr, subst}
+use Rattle.std.proofs.Common.{◌≡◌, ℕ, Bool, true, false, cond, List, length, Option, Some, None, refl, ap, sym, ◌∙◌, inl, inr, subst}
 use Rattle.std.specs.Prelude.{nat_lt}
 use Rattle.std.proofs.lemmas.Bool.{cases_lt, lt-ltb, le-ltb, le-leb, lt-leb, ltb-true}
 use Rattle.std.proofs.lemmas.List.{take_all}
@@ -119,6 +119,6 @@ too_long_comes r s taken told_end ends =
     comes_also r status.TooLong (ended_by s taken told_end ≡ ended.TooLong) _
     (end_comes r (ended_by s taken told_end) ended.TooLong ends (λ halt. halt))
     (λ is.
-      let k = too_long_end (refusal (rules_of s) (used_bytes s taken)) (refusal_at_end (rules_of s) taken) (nat_lt s.max_input (length taken)) told_end is in
-      record { more = ltb-true s.max_input (length taken) k.1; accepted = k.0 })
+    let k = too_long_end (refusal (rules_of s) (used_bytes s taken)) (refusal_at_end (rules_of s) taken) (nat_lt s.max_input (length taken)) told_end is in
+    record { more = ltb-true s.max_input (length taken) k.1; accepted = k.0 })
     (too_long_ends s taken told_end)

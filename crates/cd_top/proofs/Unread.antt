@@ -1,11 +1,10 @@
 -- What holds of a run that took no byte and wrote none.
-use Rattle.std.proofs.Common.{◌≡◌, ℕ, ◌+◌, ◌<◌, ◌≤◌, List, [], ◌++◌, length, take, Option, Some, None, refl, ap, sym, ◌∙◌, arith, subst, length-append}
+use Rattle.std.proofs.Common.{◌≡◌, ℕ, List, [], ◌++◌, length, Option, Some, None, refl, ap, sym, ◌∙◌, arith, length-append}
 use Rattle.std.proofs.lemmas.List.{append-nil}
 use Rattle.cd_drive.specs.Driving.{IsTaken}
 use Rattle.cd_engine.specs.Compacting.{StopsReading}
 use Rattle.cd_engine.specs.Events.{rules_of}
 use Rattle.cd_engine.specs.Refusals.{refusal}
-use Rattle.cd_engine.specs.declared.ended.Ended.{Ended}
 use Rattle.cd_engine.specs.declared.ended.Ended.TheVariants as ended
 use Rattle.cd_hints.specs.declared.settings.Settings.{Settings}
 use Rattle.cd_ident.specs.declared.event_rules.EventRules.{EventRules}

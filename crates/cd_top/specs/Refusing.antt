@@ -14,7 +14,7 @@ usage_text place = codes "usage " ++ decimal place ++ 10 ∷ []
 
 -- the place is reported, or a prefix of the report is written where a write failed or memory ran out
 pub record Refuses (place : ℕ) (report_old report_new : SinkMeaning) (result : Status) : Type 0 where
-  pub status : EndsAs result status.Usage
+  pub ends : EndsAs result status.Usage
   pub whole : result ≡ status.Usage → Appends report_old.contents report_new.contents (usage_text place)
   pub front : IsStopped result → AppendsPrefix report_old.contents report_new.contents (usage_text place)
 

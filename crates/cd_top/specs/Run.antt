@@ -15,7 +15,7 @@ use Rattle.cd_words.specs.CommandLines.{IsCommandLine, settings_of}
 pub record RunsOver (words : List (List ℕ)) (src_old src_new : SourceMeaning) (s : Settings) (taken : List ℕ) : Type 0 where
   pub line : IsCommandLine compact words
   pub settings : settings_of compact words ≡ s
-  pub taken : IsTaken src_old src_new taken
+  pub took : IsTaken src_old src_new taken
 
 -- What the bytes used are refused for: whatever follows them; or, where these are all and the source told their end,
 -- since nothing does.
