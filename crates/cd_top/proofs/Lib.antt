@@ -1,14 +1,6 @@
-pub mod Places
-pub mod StatusSaid
-pub mod Following
-pub mod Waiting
-pub mod Light
-pub mod Compacting
-pub mod Distinct
-pub mod Interning
-pub mod Octets
-pub mod Once
-pub mod Elements
-pub mod Parts
-pub mod Partners
-pub mod OneFile
+mod Mapping
+mod Refused
+mod Compacted
+mod Unread
+mod Reporting
+mod BrokenWords

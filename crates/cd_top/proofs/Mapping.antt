@@ -1,0 +1,80 @@
+-- What the status of a compaction's end says.
+use Rattle.std.proofs.Common.{◌≡◌, refl, ap, sym, ◌∙◌, inl, inr, subst}
+use Rattle.cd_engine.specs.Endings as endings
+use Rattle.cd_engine.specs.declared.ended.Ended.{Ended}
+use Rattle.cd_engine.specs.declared.ended.Ended.TheVariants as ended
+use Rattle.cd_top.specs.Statuses.{status_of, IsStatusOf, IsStopped, EndsAs, ComesExactly}
+use Rattle.cd_top.specs.declared.status.Status.{Status}
+use Rattle.cd_top.specs.declared.status.Status.TheVariants as status
+
+-- an end with a status; `Usage` has none, and any is given
+abbrev end_of : Status → Ended
+end_of status.Done = ended.Done
+end_of status.Usage = ended.Done
+end_of (status.BadCapture b) = ended.BadCapture b
+end_of status.ReadFault = ended.ReadFault
+end_of status.WriteFault = ended.WriteFault
+end_of status.NoMemory = ended.NoMemory
+end_of status.TooLong = ended.TooLong
+end_of (status.NotYet at) = ended.NotYet at
+
+end_back : (e : Ended) → end_of (status_of e) ≡ e
+end_back ended.Done = refl
+end_back (ended.BadCapture b) = refl
+end_back ended.ReadFault = refl
+end_back ended.WriteFault = refl
+end_back ended.NoMemory = refl
+end_back ended.TooLong = refl
+end_back (ended.NotYet at) = refl
+
+-- two ends with one status are one
+pub same_end : (e f : Ended) → status_of e ≡ status_of f → e ≡ f
+same_end e f same = sym (end_back e) ∙ ap (λ s. end_of s) same ∙ end_back f
+
+-- the end of a run whose status is that of an end
+pub end_is : (r : Status) (e f : Ended) → r ≡ status_of e → r ≡ status_of f → e ≡ f
+end_is r e f is same = same_end e f (sym is ∙ same)
+
+-- no compaction ends as a refusal of the words
+pub no_usage : (e : Ended) → status_of e ≡ status.Usage → ⊥
+no_usage ended.Done same = absurd cc
+no_usage (ended.BadCapture b) same = absurd cc
+no_usage ended.ReadFault same = absurd cc
+no_usage ended.WriteFault same = absurd cc
+no_usage ended.NoMemory same = absurd cc
+no_usage ended.TooLong same = absurd cc
+no_usage (ended.NotYet at) same = absurd cc
+
+-- an end of which P holds
+pub has_end : (P : Ended → Type 0) (r : Status) (e : Ended) → r ≡ status_of e → P e → IsStatusOf P r
+has_end P r e is h = record { end = e; is = is; holds = h }
+
+-- want of memory stops a run, and so does a failed write
+pub memory_stops : IsStopped status.NoMemory
+memory_stops = record { end = ended.NoMemory; is = refl; holds = tt }
+
+pub write_stops : IsStopped status.WriteFault
+write_stops = record { end = ended.WriteFault; is = refl; holds = tt }
+
+-- a status of an end that is not stopped is none that is
+pub not_stopped : (r : Status) (e : Ended) → r ≡ status_of e → (endings.IsStopped e → ⊥) → IsStopped r → ⊥
+not_stopped r e is going h =
+    let P : Ended → Type 0 = λ f. endings.IsStopped f in
+    going (subst P (end_is r h.end e h.is is) h.holds)
+
+-- nor is a refusal of the words
+pub usage_goes : (r : Status) → r ≡ status.Usage → IsStopped r → ⊥
+usage_goes r is h = no_usage h.end (sym h.is ∙ is)
+
+-- a run ends as its compaction does
+pub ends_mapped : (r : Status) (e f : Ended) → r ≡ status_of e → endings.EndsAs e f → EndsAs r (status_of f)
+ends_mapped r e f is h = elim h [
+  | inl same ↦ inl (is ∙ ap (λ x. status_of x) same)
+  | inr halt ↦ inr (has_end (λ x. endings.IsStopped x) r e is halt)
+]
+
+-- what comes exactly where memory ran out
+pub comes_stopped : (r s : Status) (P : Type 0) → r ≡ status.NoMemory → (r ≡ s → ⊥) → ComesExactly r s P
+comes_stopped r s P is other =
+    let Q : Status → Type 0 = λ x. IsStopped x in
+    record { only = λ same. absurd (other same); always = λ holds. inr (subst Q (sym is) memory_stops) }

@@ -1,5 +1,0 @@
-use Rattle.cd_top.proofs.Light.{events_are_linear}
-use Rattle.cd_top.proofs.laws.weights_of_events_are_linear.Goals as goal
-
-pub returns : goal.returns
-returns c = events_are_linear
