@@ -1,6 +1,5 @@
 -- What the calls of a filing leave of it, over the parts that it keeps.
-use Rattle.std.proofs.Common.{◌≡◌, ℕ, ◌+◌, ◌-◌, ◌^◌, ◌≤◌, List, [], ◌∷◌, ◌++◌, length, map, Result, Ok, Err, refl, ap, sym, ◌∙◌, subst, arith}
-use Rattle.std.specs.Prelude.{IfOk, OnOk}
+use Rattle.std.proofs.Common.{◌≡◌, ℕ, ◌+◌, ◌-◌, ◌^◌, ◌≤◌, List, [], ◌∷◌, ◌++◌, length, map, refl, ap, sym, ◌∙◌, subst, arith}
 use Rattle.std.specs.List.{concat}
 use Rattle.std.proofs.lemmas.List.{append-nil}
 use Rattle.cd_block.specs.Tables.{indexed}
@@ -18,15 +17,6 @@ use Rattle.cd_engine.specs.Counting.{held_in_64, no_record_counts}
 use Rattle.cd_engine.specs.Filing.{Filed, nothing_filed, counts_with, with_block, with_last, filed_more}
 use Rattle.cd_engine.specs.declared.counts.RecordCounts.{RecordCounts}
 use Rattle.cd_engine.proofs.FilingSteps.{admits, refuses, more_joins, more_closes}
-
--- what follows from what holds at an Ok
-pub each_ok : {T E P Q : Type 0} (r : Result T E) → OnOk r P → (P → Q) → OnOk r Q
-each_ok (Ok x) p f = f p
-each_ok (Err e) p f = p
-
-pub each_of_ok : {T E : Type 0} {P Q : T → Type 0} (r : Result T E) → IfOk r P → ((x : T) → P x → Q x) → IfOk r Q
-each_of_ok (Ok x) p f = f x p
-each_of_ok (Err e) p f = p
 
 -- what is filed, of these parts
 abbrev pub filed_of : Settings → List RecordParts → List ℕ → ℕ → RecordCounts → Filed
@@ -54,7 +44,7 @@ put_filed s present output after blocks counts run kept b e f g =
     (g ∙ ap (λ (x : Block). output ++ block_spelling x) f ∙ ap (λ (x : KeptBlock). output ++ block_spelling (indexed x)) e)
 
 -- the record joined the present run
-pub joined_filed : (s : Settings) (p new : Present) (output : List ℕ) (blocks : ℕ) (counts counted : RecordCounts) (r : RecordParts) →
+joined_filed : (s : Settings) (p new : Present) (output : List ℕ) (blocks : ℕ) (counts counted : RecordCounts) (r : RecordParts) →
     p.limits ≡ limits_of s → counted ≡ counts_with s.params.rr_types counts r → Joins p r new →
     filed_of s new.run output blocks counted ≡ filed_more (filed_of s p.run output blocks counts) r
 joined_filed s p new output blocks counts counted r limits more J =
@@ -64,7 +54,7 @@ joined_filed s p new output blocks counts counted r limits more J =
     ∙ sym (more_joins (filed_of s p.run output blocks counts) r (admits (limits_of s) (p.run ++ r ∷ []) fits))
 
 -- the record closed the present run, whose block was put at the end of the output
-pub cut_filed : (s : Settings) (p new : Present) (output : List ℕ) (blocks : ℕ) (counts counted : RecordCounts) (r : RecordParts) (given : RunParts) (after : Filed) →
+cut_filed : (s : Settings) (p new : Present) (output : List ℕ) (blocks : ℕ) (counts counted : RecordCounts) (r : RecordParts) (given : RunParts) (after : Filed) →
     p.limits ≡ limits_of s → counted ≡ counts_with s.params.rr_types counts r → Cuts p r given new →
     after ≡ with_block (filed_of s new.run output blocks counted) given.records →
     after ≡ filed_more (filed_of s p.run output blocks counts) r
@@ -110,3 +100,16 @@ last_some s p new output blocks counts given after some same e put =
     ∙ ap (λ (x : Present). with_block (filed_of s x.run output blocks counts) p.run) e
     ∙ ap (λ (xs : List ℕ). filed_of s [] (output ++ xs) (held_in_64 (blocks + 1)) counts) (sym (append-nil tail))
     ∙ ap (λ (runs : List (List RecordParts)). last_of s output blocks counts runs) (sym (as_one_run p.run some))
+
+-- the same of a filing that these parts show
+pub joined_told : (seen : Filed) (s : Settings) (p new : Present) (output : List ℕ) (blocks : ℕ) (counts counted : RecordCounts) (r : RecordParts) →
+    filed_of s p.run output blocks counts ≡ seen → p.limits ≡ limits_of s → counted ≡ counts_with s.params.rr_types counts r → Joins p r new →
+    filed_of s new.run output blocks counted ≡ filed_more seen r
+joined_told seen s p new output blocks counts counted r same limits more J =
+    joined_filed s p new output blocks counts counted r limits more J ∙ ap (λ (f : Filed). filed_more f r) same
+
+pub cut_told : (seen : Filed) (s : Settings) (p new : Present) (output : List ℕ) (blocks : ℕ) (counts counted : RecordCounts) (r : RecordParts) (given : RunParts) (after : Filed) →
+    filed_of s p.run output blocks counts ≡ seen → p.limits ≡ limits_of s → counted ≡ counts_with s.params.rr_types counts r → Cuts p r given new →
+    after ≡ with_block (filed_of s new.run output blocks counted) given.records → after ≡ filed_more seen r
+cut_told seen s p new output blocks counts counted r given after same limits more C e =
+    cut_filed s p new output blocks counts counted r given after limits more C e ∙ ap (λ (f : Filed). filed_more f r) same
