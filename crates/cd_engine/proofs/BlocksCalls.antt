@@ -1,11 +1,9 @@
 -- What the calls of blocks leave of them, over the parts that they keep.
-use Rattle.std.proofs.Common.{◌≡◌, ℕ, ◌+◌, Bool, true, false, List, [], ◌∷◌, ◌++◌, length, refl, ap, sym, ◌∙◌, subst}
+use Rattle.std.proofs.Common.{◌≡◌, ℕ, Bool, true, false, List, [], ◌∷◌, ◌++◌, ap, sym, ◌∙◌, subst}
 use Rattle.cd_ident.specs.Events.{EventParts}
 use Rattle.cd_ident.specs.Keys.{parts_of, view_of}
 use Rattle.cd_ident.specs.declared.event.Event.{Event}
-use Rattle.cd_record.specs.Runs.{limits_of}
 use Rattle.cd_window.specs.History.{StandsFor}
-use Rattle.cd_window.specs.Pushes.{IsPushed}
 use Rattle.cd_window.specs.Seen.{Seen}
 use Rattle.cd_window.specs.declared.released.Released.{Released}
 use Rattle.cd_engine.specs.Behaving.{closed_part_of_events}
@@ -52,15 +50,6 @@ pub pushed_told : (seen : BlocksSeen) (w : Seen Event) (f : Filed) (spent : Bool
     BlocksStand (blocks_seen new filed) (events ++ parts_of e ∷ []) cleared
 pushed_told seen w f spent e pushed new filed same stands R events cleared B =
     R.filed.history (events ++ parts_of e ∷ []) cleared (pushed_history w f e pushed stands events cleared (parts_stand seen w f spent same events cleared B))
-
-pub pushed_settings : (seen : BlocksSeen) (w : Seen Event) (f : Filed) (spent : Bool) (pushed new : Seen Event) (filed : Filed) → blocks_with w f spent ≡ seen →
-    FilesReady pushed f new filed → filed.settings ≡ seen.filing.settings
-pushed_settings seen w f spent pushed new filed same R = R.filed.settings ∙ ap (λ (b : BlocksSeen). b.filing.settings) same
-
-pub pushed_sum : (seen : BlocksSeen) (w : Seen Event) (f : Filed) (spent : Bool) (e : Event) (pushed new : Seen Event) (filed : Filed) → blocks_with w f spent ≡ seen →
-    IsPushed view_of w e pushed → FilesReady pushed f new filed → new.weight_sum ≡ seen.window.weight_sum + e.weight
-pushed_sum seen w f spent e pushed new filed same P R =
-    R.filed.weight_sum ∙ P.weight_sum ∙ ap (λ (b : BlocksSeen). b.window.weight_sum + e.weight) same
 
 pub finished_told : (seen : BlocksSeen) (w : Seen Event) (f : Filed) (spent : Bool) (told new : Seen Event) (filed : Filed) → blocks_with w f spent ≡ seen →
     IsDrained w f → ((all : List Event) (popped : List (Released Event)) → StandsFor view_of w all popped → StandsFor view_of told all popped) →

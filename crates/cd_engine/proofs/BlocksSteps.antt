@@ -1,21 +1,17 @@
 -- What blocks stand for, step by step.
-use Rattle.std.proofs.Common.{◌≡◌, ℕ, ◌+◌, true, false, List, [], ◌∷◌, ◌++◌, length, map, Some, refl, ap, sym, ◌∙◌, subst}
-use Rattle.std.specs.List.{All}
+use Rattle.std.proofs.Common.{◌≡◌, ℕ, true, List, [], ◌∷◌, ◌++◌, length, map, Some, refl, ap, sym, ◌∙◌, subst}
 use Rattle.std.proofs.lemmas.List.{map_push}
 use Rattle.std.proofs.lemmas.List.Elements.{All-nil, All-push}
-use Rattle.cd_block.specs.declared.params.Params.{Params}
 use Rattle.cd_file.specs.Files.{file_begun, file_of}
 use Rattle.cd_hints.specs.Records.{RecordParts, HasKinds}
 use Rattle.cd_hints.specs.declared.settings.Settings.{Settings}
 use Rattle.cd_ident.specs.Events.{EventParts}
 use Rattle.cd_ident.specs.Keys.{parts_of, view_of}
 use Rattle.cd_ident.specs.declared.event.Event.{Event}
-use Rattle.cd_ident.specs.declared.event_making.TheConstants.{GREATEST_WEIGHT}
 use Rattle.cd_record.specs.Runs.{limits_of}
 use Rattle.cd_window.specs.History.{StandsFor, listed}
-use Rattle.cd_window.specs.Pops.{IsTrimmed, IsPopped}
-use Rattle.cd_window.specs.Pushes.{IsPushed}
-use Rattle.cd_window.specs.Seen.{Seen, empty_window, is_ready}
+use Rattle.cd_window.specs.Pops.{IsPopped}
+use Rattle.cd_window.specs.Seen.{Seen}
 use Rattle.cd_window.specs.declared.released.Released.{Released}
 use Rattle.cd_engine.specs.Behaving.{cut_of, runs_of, settled_records, all_records, file_of_events, closed_part_of_events}
 use Rattle.cd_engine.specs.Blocks.{released_parts, HoldsTraffic, BlocksSeen, IsDrained, BlocksStand, blocks_seen, FilesPopped, FilesReady}
@@ -23,10 +19,9 @@ use Rattle.cd_engine.specs.Compactions.{blocks_of}
 use Rattle.cd_engine.specs.Counting.{held_in_64, record_counts, held_record_counts}
 use Rattle.cd_engine.specs.Filing.{Filed, FilingStands, nothing_filed, filed_more, ending_of, blocks_at_end}
 use Rattle.cd_engine.specs.Records.{windows_of}
-use Rattle.cd_engine.specs.declared.counts.RecordCounts.{RecordCounts}
 use Rattle.cd_engine.proofs.FilingSteps.{nothing_stands, more_stands, more_settings, cleared_stands, ended_is, ended_blocks}
 use Rattle.cd_engine.proofs.ReleasedParts.{settled_told, all_told}
-use Rattle.cd_engine.proofs.Traffic.{IsSameBehind, empty_traffic, traffic_pushed, trimmed_pushed, traffic_popped, popped_same, popped_kinds}
+use Rattle.cd_engine.proofs.Traffic.{traffic_popped, popped_same, popped_kinds}
 
 -- no event yet
 pub new_stands : (s : Settings) (w : Seen Event) (f : Filed) → StandsFor view_of w [] [] → f ≡ nothing_filed s →
@@ -39,16 +34,6 @@ new_stands s w f S e = record {
   kinds = All-nil (λ (r : Released Event). HasKinds (released_parts r));
   window = S;
   filing = subst (λ (g : Filed). FilingStands g [] []) (sym e) (nothing_stands s);
-}
-
-pub new_drained : (s : Settings) (w : Seen Event) (f : Filed) → w ≡ empty_window (windows_of s) → f ≡ nothing_filed s →
-    IsDrained w f
-new_drained s w f p q = record {
-  windows = ap (λ (x : Seen Event). x.windows) p ∙ sym (ap (λ (g : Filed). windows_of g.settings) q);
-  going = ap (λ (x : Seen Event). x.finished) p;
-  due = ap (λ (x : Seen Event). is_ready view_of x) p;
-  trimmed = subst (λ (x : Seen Event). IsTrimmed x) (sym p) (λ e. refl);
-  traffic = subst (λ (x : Seen Event). HoldsTraffic x) (sym p) (empty_traffic (windows_of s));
 }
 
 -- what stands for a history is not spent
@@ -77,18 +62,6 @@ pushed_history w f e new stands events cleared B = record {
   kinds = B.kinds;
   window = stands B.pushed B.popped B.window;
   filing = B.filing;
-}
-
--- nothing was popped yet
-pub files_nothing : (w : Seen Event) (f : Filed) → IsTrimmed w → HoldsTraffic w → FilesPopped w f w f
-files_nothing w f trim T = record {
-  history = λ events cleared B. B;
-  windows = refl;
-  finished = refl;
-  weight_sum = refl;
-  settings = refl;
-  trimmed = trim;
-  traffic = T;
 }
 
 one_filed : (w : Seen Event) (f : Filed) (r : Released Event) (new : Seen Event) → HasKinds (released_parts r) →
@@ -123,17 +96,6 @@ files_more w f before filed r new more F P stands e =
       trimmed = same.trimmed;
       traffic = traffic_popped before r new F.traffic P;
     }
-
--- a window that was drained takes a light event, and is drained again
-pub pushed_drained : (w : Seen Event) (f : Filed) (e : Event) (pushed : Seen Event) (new : Seen Event) (filed : Filed) →
-    IsDrained w f → IsPushed view_of w e pushed → FilesReady pushed f new filed → IsDrained new filed
-pushed_drained w f e pushed new filed D P R = record {
-  windows = R.filed.windows ∙ P.windows ∙ D.windows ∙ sym (ap windows_of R.filed.settings);
-  going = R.filed.finished ∙ P.finished ∙ D.going;
-  due = R.idle;
-  trimmed = R.filed.trimmed;
-  traffic = R.filed.traffic;
-}
 
 -- the output is the front of the file that is closed
 pub output_is : (w : Seen Event) (f : Filed) → IsDrained w f → (events : List EventParts) (cleared : List ℕ) →
@@ -208,6 +170,3 @@ pub told_traffic : (w : Seen Event) (told : Seen Event) → told ≡ record w { 
 told_traffic w told e T =
     let T2 : HoldsTraffic (record w { finished = true }) = record { light = T.light; within = T.within; opposite = T.opposite } in
     subst (λ (x : Seen Event). HoldsTraffic x) (sym e) T2
-
-pub told_trimmed : (w : Seen Event) (told : Seen Event) → told ≡ record w { finished = true } → IsTrimmed w → IsTrimmed told
-told_trimmed w told e trim = subst (λ (x : Seen Event). IsTrimmed x) (sym e) (λ h. trim h)

@@ -7,5 +7,4 @@ pub mod FilingCalls
 pub mod Traffic
 pub mod ReleasedParts
 pub mod BlocksSteps
-pub mod Timeouts
 pub mod BlocksCalls

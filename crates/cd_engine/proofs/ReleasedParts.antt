@@ -1,5 +1,5 @@
 -- The records that were popped are those of the events that were pushed.
-use Rattle.std.proofs.Common.{◌≡◌, ℕ, true, false, List, [], ◌∷◌, length, map, Option, Some, None, refl, ap, sym, ◌∙◌, subst, inl, inr}
+use Rattle.std.proofs.Common.{◌≡◌, ℕ, true, false, List, [], ◌∷◌, length, map, Option, Some, refl, ap, sym, ◌∙◌, subst, inl, inr}
 use Rattle.std.specs.Prelude.{slice_get, option_and_then}
 use Rattle.std.specs.List.{All, cons_option}
 use Rattle.std.specs.Option.{option_map}
@@ -8,7 +8,7 @@ use Rattle.std.proofs.lemmas.List.Elements.{All-head, All-tail}
 use Rattle.cd_hints.specs.Records.{RecordParts, HasKinds}
 use Rattle.cd_hints.specs.declared.settings.Settings.{Settings}
 use Rattle.cd_ident.specs.Events.{EventParts}
-use Rattle.cd_ident.specs.Keys.{parts_of, view_of, view_of_parts}
+use Rattle.cd_ident.specs.Keys.{parts_of, view_of}
 use Rattle.cd_ident.specs.declared.event.Event.{Event}
 use Rattle.cd_ident.specs.declared.event.Kind.{Kind}
 use Rattle.cd_pairing.proofs.Finding.{exists}
@@ -17,7 +17,7 @@ use Rattle.cd_pairing.specs.Pairing.{are_compatible, IsPairing}
 use Rattle.cd_pairing.specs.Records.{Record, pair, single, records, released_records}
 use Rattle.cd_pairing.specs.declared.keyed.Windows.{Windows}
 use Rattle.cd_window.proofs.Ready.{due_is_popped}
-use Rattle.cd_window.specs.History.{ArePushed, IsRecord, AreRecords, StandsFor}
+use Rattle.cd_window.specs.History.{IsRecord, AreRecords, StandsFor}
 use Rattle.cd_window.specs.Pops.{IsTrimmed}
 use Rattle.cd_window.specs.Seen.{Seen, is_ready}
 use Rattle.cd_window.specs.declared.released.Released.{Released}

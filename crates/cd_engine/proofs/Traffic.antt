@@ -1,6 +1,6 @@
 -- What is held stays the traffic of DNS as events are pushed and records are popped, and what is popped is a record of
 -- light events, each of its kind.
-use Rattle.std.proofs.Common.{◌≡◌, ℕ, zero, suc, ◌+◌, ◌-◌, ◌<◌, ◌≤◌, ◌⊎◌, inl, inr, true, false, Bool, List, [], ◌∷◌, ◌++◌, length, drop, set, get_or, Option, Some, None, refl, ap, sym, ◌∙◌, subst, arith, length-set, length-drop}
+use Rattle.std.proofs.Common.{◌≡◌, ℕ, zero, suc, ◌+◌, ◌-◌, ◌<◌, ◌≤◌, ◌⊎◌, inl, inr, true, List, [], ◌∷◌, ◌++◌, length, drop, set, get_or, Option, Some, None, refl, ap, sym, ◌∙◌, subst, arith, length-set, length-drop}
 use Rattle.std.specs.List.{All}
 use Rattle.std.proofs.lemmas.Bool.{and_parts, cases_lt, false≢true}
 use Rattle.std.proofs.lemmas.Option.{none-some, same_Some}
@@ -21,9 +21,9 @@ use Rattle.cd_pairing.specs.Pairing.{StampedEvent, may_pair}
 use Rattle.cd_record.specs.Laws.{IsLight, events_of}
 use Rattle.cd_window.specs.declared.held.Held.{Held}
 use Rattle.cd_window.specs.declared.released.Released.{Released}
-use Rattle.cd_window.specs.Pops.{IsTrimmed, IsLeft, in_order, PopsOne, PopsPair, IsPopped}
-use Rattle.cd_window.specs.Pushes.{next_held, fits_next, with_partner, JoinsAt, StaysAlone, IsPushed}
-use Rattle.cd_window.specs.Seen.{Places, Seen, count_of, held_at, empty_window, stamped}
+use Rattle.cd_window.specs.Pops.{IsTrimmed, IsLeft, in_order, IsPopped}
+use Rattle.cd_window.specs.Pushes.{next_held, with_partner, JoinsAt, StaysAlone, IsPushed}
+use Rattle.cd_window.specs.Seen.{Places, Seen, count_of, held_at, stamped}
 use Rattle.cd_engine.specs.Blocks.{released_parts, HoldsTraffic}
 use Rattle.cd_engine.specs.Records.{single_of_kind, single_record}
 
@@ -56,14 +56,6 @@ place_below xs k h e = elim (cases_lt k (length xs)) [
   | inl lt ↦ lt
   | inr past ↦ absurd (none-some h (sym (get_or_past xs k None past) ∙ e))
 ]
-
--- a window that was given no event
-pub empty_traffic : (windows : Windows) → HoldsTraffic (empty_window windows)
-empty_traffic windows = record {
-  light = λ k h e. absurd (none-some h e);
-  within = λ k j h e p. absurd (none-some h e);
-  opposite = λ k l h o e f p. absurd (none-some h e);
-}
 
 -- what is held after a push: what was held, the place that was joined, with its event, or the next event
 data Origin (w : Seen Event) (e : Event) (place : ℕ) (was : Held Event) (k : ℕ) (h : Held Event) : Type 0 where
@@ -193,25 +185,6 @@ pub traffic_pushed : (w : Seen Event) (e : Event) (new : Seen Event) → HoldsTr
 traffic_pushed w e new T light P = elim P.held [
   | inl J ↦ joined_traffic w e new T light P.first J
   | inr A ↦ alone_traffic w e new T light P.first A
-]
-
--- something is held at the front after a push
-trimmed_push : (xs : Places Event) (y : Held Event) → (get_or xs 0 None ≡ None → xs ≡ []) → get_or (xs ++ Some y ∷ []) 0 None ≡ None →
-    ⊥
-trimmed_push [] y trim e = none-some y (sym e)
-trimmed_push (x ∷ xs) y trim e = let z : x ∷ xs ≡ [] = trim e in cc
-
-trimmed_set : (xs : Places Event) (i : ℕ) (y : Held Event) → (get_or xs 0 None ≡ None → xs ≡ []) →
-    get_or (set xs i (Some y)) 0 None ≡ None → set xs i (Some y) ≡ []
-trimmed_set [] i y trim e = refl
-trimmed_set (x ∷ xs) zero y trim e = absurd (none-some y (sym e))
-trimmed_set (x ∷ xs) (suc i) y trim e = let z : x ∷ xs ≡ [] = trim e in cc
-
-pub trimmed_pushed : (w : Seen Event) (e : Event) (new : Seen Event) → IsTrimmed w → IsPushed view_of w e new → IsTrimmed new
-trimmed_pushed w e new trim P = λ empty. elim P.held [
-  | inl J ↦ absurd (trimmed_push (set w.held J.place (Some (with_partner J.was (count_of w)))) (next_held view_of w e (Some (w.first + J.place))) (trimmed_set w.held J.place (with_partner J.was (count_of w)) trim)
-      (sym (ap (λ (xs : Places Event). get_or xs 0 None) J.new_is) ∙ empty))
-  | inr A ↦ absurd (trimmed_push w.held (next_held view_of w e None) trim (sym (ap (λ (xs : Places Event). get_or xs 0 None) A.new_is) ∙ empty))
 ]
 
 -- what is left when the front is gone

@@ -66,7 +66,12 @@ pub(crate) const NO_RECORD_COUNTS: RecordCounts = RecordCounts {
 };
 
 // The counts of the whole: of its packets, of its records, and of its blocks.
-pub(crate) fn counts_of(packets: PacketCounts, records: RecordCounts, blocks: u64, cut: bool) -> Counts
+pub(crate) fn counts_of(
+    packets: PacketCounts,
+    records: RecordCounts,
+    blocks: u64,
+    cut: bool,
+) -> Counts
     ensures { result ≡ counts_of packets records blocks cut }
 {
     let skipped = packets.skipped;
