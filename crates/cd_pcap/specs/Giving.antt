@@ -1,11 +1,12 @@
 -- What the reader of a capture answers.
-use Rattle.std.specs.Prelude.{◌≡◌, ℕ, ◌+◌, ◌<◌, List, [], ◌∷◌, ◌++◌, length, take, Option, Some, None, Result, Ok, Err}
+use Rattle.std.specs.Prelude.{◌≡◌, ℕ, ◌+◌, ◌<◌, ◌≤◌, ◌^◌, List, [], ◌∷◌, ◌++◌, length, take, Option, Some, None, Result, Ok, Err}
 use Rattle.std.specs.Prelude.{⊤}
 use Rattle.std.specs.declared.alloc.AllocError.{AllocError}
 use Rattle.cd_packet.specs.declared.capture.BadCapture.{BadCapture}
 use Rattle.cd_packet.specs.declared.capture.FeedFault.{FeedFault}
 use Rattle.cd_packet.specs.declared.capture.FeedFault.TheVariants.{Bad, NoMemory}
 use Rattle.cd_packet.specs.declared.packet.Packet.{Packet}
+use Rattle.cd_pcap.specs.Laws.{record_size}
 use Rattle.cd_pcap.specs.Pcap.{pcap}
 use Rattle.cd_pcap.specs.Reading.{Kept, StandsFor, refusal_of}
 
@@ -39,3 +40,9 @@ abbrev pub Shrinks : Kept → Kept → Result (Option Packet) AllocError → Typ
 Shrinks old new (Ok (Some p)) = length new.held < length old.held
 Shrinks old new (Ok None) = ⊤
 Shrinks old new (Err e) = ⊤
+
+-- where a packet was given, the reader went on by its record, and no further than may be fed
+abbrev pub Moves : Kept → Kept → Result (Option Packet) AllocError → Type 0
+Moves old new (Ok (Some p)) = (new.at ≡ old.at + record_size p) × (new.at ≤ 2 ^ 48)
+Moves old new (Ok None) = ⊤
+Moves old new (Err e) = ⊤

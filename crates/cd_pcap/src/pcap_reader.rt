@@ -56,7 +56,7 @@ impl PcapReader {
     ghost use Rattle.cd_pcap.specs.Pcap.{pcap};
     ghost use Rattle.cd_packet.specs.declared.packet.Packet.{Packet};
     ghost use Rattle.cd_pcap.specs.Reading.{Kept, HasRead, StandsFor};
-    ghost use Rattle.cd_pcap.specs.Giving.{Feeds, RefusesAgain, Counts, Gives, Shrinks};
+    ghost use Rattle.cd_pcap.specs.Giving.{Feeds, RefusesAgain, Counts, Gives, Shrinks, Moves};
 
     /// A reader that was fed nothing.
     pub fn new(alloc: Global) -> PcapReader
@@ -128,6 +128,7 @@ impl PcapReader {
         ensures history { (fed : List ℕ) (given : List Packet) → HasRead self.old fed [] given →
             StandsFor self.new fed given }
         ensures count { self.new.fed_count ≡ self.old.fed_count }
+        ensures place { self.new.at ≡ self.old.at }
     {
         let mark = self.start + self.whole;
         let records = whole_records(self.at + self.whole as u64, &self.bytes[mark..]);
@@ -144,6 +145,7 @@ impl PcapReader {
         ensures history { (fed : List ℕ) (given : List Packet) → HasRead self.old fed [] given →
             StandsFor self.new fed given }
         ensures count { self.new.fed_count ≡ self.old.fed_count }
+        ensures place { self.old.at ≤ self.new.at }
     {
         match self.link {
             Some(_) => self.mark_records(),
@@ -167,6 +169,7 @@ impl PcapReader {
             → Feeds self.new (fed ++ chunk.now) given result }
         ensures again { RefusesAgain self.old result }
         ensures count { Counts self.old self.new (length chunk.now) result }
+        ensures place { self.old.at ≤ self.new.at }
     {
         if let Some(bad) = self.refused {
             self.fed_count += chunk.len() as u64;
@@ -191,6 +194,7 @@ impl PcapReader {
         ensures unchanged { OnErr result (self.new ≡ self.old) }
         ensures count { self.new.fed_count ≡ self.old.fed_count }
         ensures shrinks { Shrinks self.old self.new result }
+        ensures moves { Moves self.old self.new result }
     {
         let link = match self.link {
             None => return Ok(None),

@@ -1,8 +1,21 @@
-use Rattle.std.proofs.Common.{arith}
-use Rattle.std.proofs.lemmas.List.{drop-drop, take_rest}
+use Rattle.std.proofs.Common.{◌≡◌, ℕ, ◌+◌, ◌∙◌, List, length, take, drop, ap, sym, arith}
+use Rattle.std.proofs.lemmas.List.{drop-drop, take_rest, length-drop, length-take-le}
+use Rattle.cd_packet.specs.declared.packet.Packet.{Packet}
+use Rattle.cd_pcap.specs.Fronts.{HasRecord}
+use Rattle.cd_pcap.specs.Laws.{record_size}
+use Rattle.cd_pcap.specs.Reading.{Kept}
+use Rattle.cd_pcap.specs.Pcap.{little_micros, captured_length, packet_at}
 use Rattle.cd_pcap.proofs.Standing.{all_given, header_first, packet_passed}
 use Rattle.cd_pcap.proofs.Inside.{first_inside, passed_inside, sound_inside}
 use Rattle.cd_pcap.proofs.pcap_reader.PcapReader.next.Goals as goal
+
+-- the record at the front is that of its packet
+size_passed : (link at size : ℕ) (held : List ℕ) (p : Packet) → HasRecord size held → p ≡ packet_at little_micros link at held → record_size p ≡ size
+size_passed link at size held p first is =
+    let n : ℕ = captured_length little_micros held in
+    let bytes : length p.bytes ≡ n =
+    ap (λ (q : Packet). length q.bytes) is ∙ length-take-le n (drop 16 held) (omega (arith, first.sum, first.whole, length-drop 16 held)) in
+    omega (arith, first.sum, bytes)
 
 pub returns-in-None-clause-history : goal.returns-in-None-clause-history
 returns-in-None-clause-history c =
@@ -56,3 +69,12 @@ returns-clause-history c =
     let b = rw (← is) at (first_inside c.self.inside c.in-Some.link c.self.invariant c.in-Some.is (omega arith)) in
     rw (← c.self.view_is, ← drop-drop c.record_size-size.result c.self.inside.start c.self.inside.bytes.items)
     (packet_passed _ c.in-Some.link c.record_size-size.result c.in_ok-packet.packet c.in-Some.is b.first b.within packet)
+
+pub returns-clause-moves : goal.returns-clause-moves
+returns-clause-moves c =
+    let is = rw (c.deref.ensures.value, take_rest) at c.record_size-size.ensures in
+    let packet = rw (c.deref.ensures.value, take_rest) at c.in_ok-packet.ensures in
+    let b = rw (← is) at (first_inside c.self.inside c.in-Some.link c.self.invariant c.in-Some.is (omega arith)) in
+    let size : record_size c.in_ok-packet.packet ≡ c.record_size-size.result = size_passed _ _ _ _ c.in_ok-packet.packet b.first packet in
+    let place : c.args.self.now.at ≡ c.self.inside.at = sym (ap (λ (r : Kept). r.at) c.self.view_is) in
+    (omega (arith, size, place), omega (arith, b.within, c.self.invariant.within, c.self.invariant.counted, c.self.invariant.few))
