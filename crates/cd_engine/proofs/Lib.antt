@@ -1,0 +1,9 @@
+pub mod EventsMade
+pub mod PacketCounting
+pub mod RecordSums
+pub mod CountsFit
+pub mod Refusing
+pub mod Taking
+pub mod Closing
+pub mod OneFile
+pub mod Compacted
