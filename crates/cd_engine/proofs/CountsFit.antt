@@ -155,9 +155,17 @@ folded_closed : (limits : Limits) (c : CutRecords) (rs : List RecordParts) → l
 folded_closed limits c [] = omega arith
 folded_closed limits c (r ∷ rs) = omega (arith, folded_closed limits (cut_more limits c r) rs, more_closed limits c r)
 
-closed_few : (limits : Limits) (rs : List RecordParts) → length (cut_of limits rs).closed ≤ length rs
+cut_is : (limits : Limits) (rs : List RecordParts) → cut_of limits rs ≡ fold (cut_more limits) (record { closed = []; present = [] }) rs
 unfolding cut_of
-closed_few limits rs = folded_closed limits (record { closed = []; present = [] }) rs
+cut_is limits rs = refl
+
+closed_few : (limits : Limits) (rs : List RecordParts) → length (cut_of limits rs).closed ≤ length rs
+closed_few limits rs =
+    omega (
+      arith,
+      ap (λ (c : CutRecords). length c.closed) (cut_is limits rs),
+      folded_closed limits (record { closed = []; present = [] }) rs,
+    )
 
 present_few : (run : List RecordParts) → length (as_runs run) ≤ 1
 present_few [] = omega arith

@@ -5,6 +5,7 @@ use Rattle.std.proofs.lemmas.Bool.{cases_lt}
 use Rattle.std.proofs.lemmas.List.{append-nil, length-take, take-append-drop, take_all}
 use Rattle.std.proofs.lemmas.List.Elements.{filter_map-append}
 use Rattle.std.proofs.lemmas.List.Sums.{sum_by-append}
+use Rattle.cd_hints.specs.declared.settings.Settings.{Settings}
 use Rattle.cd_ident.specs.Events.{EventParts}
 use Rattle.cd_ident.specs.Keys.{parts_of}
 use Rattle.cd_ident.specs.declared.event.Event.{Event}
@@ -30,7 +31,7 @@ use Rattle.cd_engine.specs.declared.counts.PacketCounts.{PacketCounts}
 use Rattle.cd_engine.specs.declared.refusal.Refusal.{Refusal}
 use Rattle.cd_engine.specs.declared.refusal.Refusal.TheVariants.{BadCapture as RefusedCapture, NotYet}
 use Rattle.cd_engine.proofs.PacketCounting.{packets_more}
-use Rattle.cd_engine.proofs.Refusing.{served-append, packets-few, packets-other, refusal-few, refusal-many, at_end-other, at_end-read, compacted-at, compacted-few, compacted-other, stays_refused}
+use Rattle.cd_engine.proofs.Refusing.{served-append, packets-few, packets-other, refusal-few, refusal-many, other-append, at_end-other, at_end-read, compacted-at, compacted-few, compacted-other, stays_refused}
 
 -- a front of nothing is nothing
 none_of_none : (ps rest : List Packet) → ps ++ rest ≡ [] → ps ≡ []
@@ -160,7 +161,7 @@ first_other first bytes is four =
 pub record TakesChunk (c : CompactorSeen) (r : Kept) (first chunk : List ℕ) : Type 0 where
   pub going : c.refused ≡ None
   pub reads : (fed : List ℕ) (given : List Packet) → StandsFor c.reader fed given → StandsFor r (fed ++ chunk) given
-  pub first : (fed : List ℕ) → c.first ≡ take 4 fed → first ≡ take 4 (fed ++ chunk)
+  pub starts : (fed : List ℕ) → c.first ≡ take 4 fed → first ≡ take 4 (fed ++ chunk)
 
 -- too few bytes came so far
 pub chunk_few : (c : CompactorSeen) (r : Kept) (first fed chunk cleared : List ℕ) → TakesChunk c r first chunk → length first < 4 →
@@ -168,7 +169,7 @@ pub chunk_few : (c : CompactorSeen) (r : Kept) (first fed chunk cleared : List �
 chunk_few c r first fed chunk cleared k few h =
     let bytes : List ℕ = fed ++ chunk in
     let rules : EventRules = rules_of c.blocks.filing.settings in
-    let starts : first ≡ take 4 bytes = k.first fed (h.first k.going) in
+    let starts : first ≡ take 4 bytes = k.starts fed (h.first k.going) in
     let short : length bytes < 4 = first_few first bytes starts few in
     let reads : StandsFor r bytes h.given = k.reads fed h.given (h.reads k.going) in
     let none : h.given ≡ [] = none_given r bytes h.given reads (packets-few bytes short) in
@@ -190,7 +191,7 @@ pub chunk_other : (c : CompactorSeen) (r : Kept) (first fed chunk cleared : List
 chunk_other c r first fed chunk cleared k four other h =
     let bytes : List ℕ = fed ++ chunk in
     let rules : EventRules = rules_of c.blocks.filing.settings in
-    let starts : first ≡ take 4 bytes = k.first fed (h.first k.going) in
+    let starts : first ≡ take 4 bytes = k.starts fed (h.first k.going) in
     let many : 4 ≤ length bytes = first_many first bytes starts four in
     let same : is_other_format bytes ≡ true = first_other first bytes starts four ∙ other in
     let reads : StandsFor r bytes h.given = k.reads fed h.given (h.reads k.going) in
@@ -275,3 +276,9 @@ new_stands r p b reads packets blocks =
       small = omega arith;
       compacts = record { served = refl; packets = packets; blocks = blocks };
     }
+
+-- the rules that are kept are those of the settings
+pub rules_kept : (rules : EventRules) (b head : BlocksSeen) (s : Settings) → b ≡ head → head.spent ≡ false →
+    (b.spent ≡ false → rules ≡ rules_of b.filing.settings) → head.filing.settings ≡ s → rules ≡ rules_of s
+rules_kept rules b head s is fresh kept same =
+    kept (ap (λ (x : BlocksSeen). x.spent) is ∙ fresh) ∙ ap (λ (x : BlocksSeen). rules_of x.filing.settings) is ∙ ap rules_of same
