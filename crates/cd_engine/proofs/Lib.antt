@@ -8,3 +8,11 @@ pub mod Traffic
 pub mod ReleasedParts
 pub mod BlocksSteps
 pub mod BlocksCalls
+pub mod EventsMade
+pub mod PacketCounting
+pub mod RecordSums
+pub mod CountsFit
+pub mod Refusing
+pub mod Taking
+pub mod Closing
+pub mod Compacted

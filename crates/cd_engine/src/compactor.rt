@@ -1,10 +1,18 @@
 //! The machine that makes a C-DNS file of a capture.
 
-ghost use Rattle.std.specs.Prelude.{◌≡◌, ℕ, ◌+◌, ◌≤◌, ◌^◌, false, [], ◌++◌, List, length, take, IfOk, OnOk, IsTrue};
+ghost use Rattle.std.specs.Prelude.{◌≡◌, ℕ, ◌+◌, ◌*◌, ◌≤◌, ◌^◌, false, [], ◌∷◌, ◌++◌, List, length, take, None, IfOk, OnOk};
+ghost use Rattle.std.specs.Prelude.{OnErr};
 ghost use Rattle.cd_hints.specs.Validity.{IsValid};
+ghost use Rattle.cd_ident.specs.Events.{EventParts};
+ghost use Rattle.cd_ident.specs.Keys.{parts_of};
+ghost use Rattle.cd_ident.specs.declared.event_making.TheConstants.{GREATEST_WEIGHT};
+ghost use Rattle.cd_packet.specs.declared.packet.Packet.{Packet};
+ghost use Rattle.cd_pcap.specs.Reading.{StandsFor};
+ghost use Rattle.cd_engine.specs.Blocks.{BlocksStand};
 ghost use Rattle.cd_engine.specs.Counting.{is_cut_short, packet_counts_with};
+ghost use Rattle.cd_engine.specs.Events.{rules_of};
 ghost use Rattle.cd_engine.specs.Refusals.{is_other_format, refusal_of_end};
-ghost use Rattle.cd_engine.specs.Standing.{CompactorStands};
+ghost use Rattle.cd_engine.specs.Standing.{CompactorStands, ReadsOn, HasTaken};
 
 use crate::blocks::Blocks;
 use crate::counts::{Counts, NO_PACKET_COUNTS, PacketCounts, counts_of};
@@ -50,8 +58,12 @@ impl Model for Compactor {
     ghost use Rattle.std.specs.Prelude.{◌≡◌, ◌*◌, ◌≤◌, ◌^◌, false};
     ghost use Rattle.cd_engine.specs.Events.{rules_of};
     ghost use Rattle.cd_engine.specs.Standing.{CompactorSeen};
+    ghost use Rattle.cd_ident.specs.contracts.event.Event as event;
+    ghost use Rattle.std.specs.Coded.{codes};
 
     ghost Value = { CompactorSeen };
+
+    ghost coded = { Prim.hlevel (codes, event.the_row.coded) };
 
     ghost view = { λ c. record {
       reader = c.reader;
@@ -61,9 +73,9 @@ impl Model for Compactor {
       blocks = c.blocks;
     } };
 
+    // What was pushed weighs no more than the bytes that were read allow. What is spent keeps nothing but its bounds.
     ghost invariant = { λ c. record {
-      rules : c.rules ≡ rules_of c.blocks.filing.settings;
-      // What was pushed weighs no more than the bytes that were read allow.
+      rules : c.blocks.spent ≡ false → c.rules ≡ rules_of c.blocks.filing.settings;
       light : c.blocks.spent ≡ false → 16 * c.blocks.window.weight_sum ≤ 829 * c.reader.at;
       few : c.reader.fed_count ≤ 2 ^ 48;
     } };
@@ -113,6 +125,32 @@ fn is_cut_short(refused: Option<Refusal>, end: EndState) -> bool
     refused.is_none() && matches!(end, EndState::Cut)
 }
 
+// Keeps the first bytes of a capture.
+fn keep_first(first: &mut Vec<u8>, chunk: &[u8]) -> Result<(), AllocError>
+    ensures { (fed : List ℕ) → first.old.items ≡ take 4 fed →
+        OnOk result (first.new.items ≡ take 4 (fed ++ chunk.now)) }
+{
+    let missing = MAGIC_SIZE.saturating_sub(first.len());
+    let count = missing.min(chunk.len());
+    first.extend_from_slice(&chunk[..count])
+}
+
+// Feeds a chunk to a reader. A refused place in it is told by the reader's end, once the packets before it are taken.
+fn feed_reader(reader: &mut PcapReader, chunk: &[u8]) -> Result<(), AllocError>
+    requires { reader.old.fed_count + length chunk.now ≤ 2 ^ 48 }
+    ensures history { OnOk result ((fed : List ℕ) (given : List Packet) → StandsFor reader.old fed given →
+        StandsFor reader.new (fed ++ chunk.now) given) }
+    ensures count { OnOk result (reader.new.fed_count ≡ reader.old.fed_count + length chunk.now) }
+    ensures place { reader.old.at ≤ reader.new.at }
+    ensures unchanged { OnErr result (reader.new ≡ reader.old) }
+{
+    match reader.feed(chunk) {
+        Ok(()) => Ok(()),
+        Err(FeedFault::Bad(_)) => Ok(()),
+        Err(FeedFault::NoMemory) => Err(AllocError),
+    }
+}
+
 impl Compactor {
     /// A compactor that was fed nothing, under valid settings, which are copied.
     pub(crate) fn new(alloc: Global, settings: &Settings) -> Result<Compactor, AllocError>
@@ -121,6 +159,7 @@ impl Compactor {
         ensures settings { IfOk result (λ c. c.blocks.filing.settings ≡ settings.now) }
         ensures count { IfOk result (λ c. c.reader.fed_count ≡ 0) }
     {
+        let blocks = Blocks::new(alloc, copy_of(alloc, settings)?)?;
         Ok(Compactor {
             alloc,
             rules: EventRules {
@@ -131,26 +170,41 @@ impl Compactor {
             first: Vec::new(alloc),
             refused: None,
             packets: NO_PACKET_COUNTS,
-            blocks: Blocks::new(alloc, copy_of(alloc, settings)?)?,
+            blocks,
         })
     }
 
-    // Keeps the first bytes of the capture.
-    fn keep_first(&mut self, chunk: &[u8]) -> Result<(), AllocError> {
-        let missing = MAGIC_SIZE.saturating_sub(self.first.len());
-        let count = missing.min(chunk.len());
-        self.first.extend_from_slice(&chunk[..count])
-    }
-
-    // Takes the event of the next packet.
-    fn take_event(&mut self, event: Event) -> Result<(), AllocError> {
+    // Takes the event of the next packet, which weighs no more than the bytes that were read allow.
+    fn take_event(&mut self, event: Event) -> Result<(), AllocError>
+        requires fresh { self.old.blocks.spent ≡ false }
+        requires weight { event.weight ≤ GREATEST_WEIGHT }
+        requires light { 16 * (self.old.blocks.window.weight_sum + event.weight) ≤ 829 * self.old.reader.at }
+        requires few { self.old.reader.at ≤ 2 ^ 48 }
+        ensures history { OnOk result ((events : List EventParts) (cleared : List ℕ) →
+            BlocksStand self.old.blocks events cleared →
+            BlocksStand self.new.blocks (events ++ parts_of event ∷ []) cleared) }
+        ensures packets { OnOk result (self.new.packets ≡ packet_counts_with self.old.packets event.kind) }
+        ensures fresh { OnOk result (self.new.blocks.spent ≡ false) }
+        ensures settings { OnOk result (self.new.blocks.filing.settings ≡ self.old.blocks.filing.settings) }
+        ensures reader { OnOk result (self.new.reader ≡ self.old.reader) }
+        ensures first { OnOk result (self.new.first ≡ self.old.first) }
+    {
         self.packets = packet_counts_with(self.packets, event.kind);
         self.blocks.push(event)
     }
 
     // Takes the packets that are there whole, up to one that cannot be compacted, and answers what the bytes are refused
     // for.
-    fn take_packets(&mut self) -> Result<Option<Refusal>, AllocError> {
+    fn take_packets(&mut self) -> Result<Option<Refusal>, AllocError>
+        requires fresh { self.old.blocks.spent ≡ false }
+        ensures history { IfOk result (λ refused. (fed cleared : List ℕ) →
+            ReadsOn (rules_of self.old.blocks.filing.settings) self.old fed cleared →
+            HasTaken (rules_of self.old.blocks.filing.settings) self.new fed cleared refused) }
+        ensures settings { OnOk result (self.new.blocks.filing.settings ≡ self.old.blocks.filing.settings) }
+        ensures fresh { OnOk result (self.new.blocks.spent ≡ false) }
+        ensures count { OnOk result (self.new.reader.fed_count ≡ self.old.reader.fed_count) }
+        ensures first { OnOk result (self.new.first ≡ self.old.first) }
+    {
         'packets: loop {
             let next = self.reader.next()?;
             let packet = match next {
@@ -166,22 +220,25 @@ impl Compactor {
     }
 
     // Takes a chunk of bytes that are not refused so far.
-    fn take_chunk(&mut self, chunk: &[u8]) -> Result<(), AllocError> {
-        self.keep_first(chunk)?;
-        match self.reader.feed(chunk) {
-            Ok(()) => {}
-            // Its end tells the refused place, once the packets before it are taken.
-            Err(FeedFault::Bad(_)) => {}
-            Err(FeedFault::NoMemory) => return Err(AllocError),
-        }
+    fn take_chunk(&mut self, chunk: &[u8]) -> Result<(), AllocError>
+        requires fresh { self.old.blocks.spent ≡ false }
+        requires going { self.old.refused ≡ None }
+        requires space { self.old.reader.fed_count + length chunk.now ≤ 2 ^ 48 }
+        ensures history { OnOk result ((fed cleared : List ℕ) → CompactorStands self.old fed cleared →
+            CompactorStands self.new (fed ++ chunk.now) cleared) }
+        ensures settings { OnOk result (self.new.blocks.filing.settings ≡ self.old.blocks.filing.settings) }
+        ensures count { OnOk result (self.new.reader.fed_count ≡ self.old.reader.fed_count + length chunk.now) }
+    {
+        keep_first(&mut self.first, chunk)?;
+        feed_reader(&mut self.reader, chunk)?;
         if self.first.len() < MAGIC_SIZE {
             return Ok(());
         }
-        self.refused = if is_other_format(&self.first) {
-            Some(Refusal::NotYet { at: 0 })
-        } else {
-            self.take_packets()?
-        };
+        if is_other_format(&self.first) {
+            self.refused = Some(Refusal::NotYet { at: 0 });
+            return Ok(());
+        }
+        self.refused = self.take_packets()?;
         Ok(())
     }
 }

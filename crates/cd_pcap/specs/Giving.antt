@@ -41,8 +41,8 @@ Shrinks old new (Ok (Some p)) = length new.held < length old.held
 Shrinks old new (Ok None) = ⊤
 Shrinks old new (Err e) = ⊤
 
--- where a packet was given, the reader went on by its record, and no further than may be fed
+-- where a packet was given, the reader went on by its record, and no further than may be fed; else it stayed
 abbrev pub Moves : Kept → Kept → Result (Option Packet) AllocError → Type 0
 Moves old new (Ok (Some p)) = (new.at ≡ old.at + record_size p) × (new.at ≤ 2 ^ 48)
-Moves old new (Ok None) = ⊤
+Moves old new (Ok None) = new.at ≡ old.at
 Moves old new (Err e) = ⊤

@@ -1,0 +1,42 @@
+-- The event that is made of a packet is the packet's, and weighs what its bytes allow.
+use Rattle.std.proofs.Common.{◌≡◌, ℕ, ◌*◌, ◌≤◌, length, Option, Some, None, refl, ap, sym, ◌∙◌, arith}
+use Rattle.std.proofs.lemmas.Bool.{le-ltb}
+use Rattle.cd_ident.proofs.WeightBounds.{event_weights_are_bounded, event_weights_are_linear}
+use Rattle.cd_ident.specs.Events.{EventParts, event_parts}
+use Rattle.cd_ident.specs.declared.event_making.TheConstants.{GREATEST_WEIGHT}
+use Rattle.cd_ident.specs.declared.event_rules.EventRules.{EventRules}
+use Rattle.cd_packet.proofs.Payloads.{layer_within}
+use Rattle.cd_packet.proofs.Skipping.{layer_of-skipped}
+use Rattle.cd_packet.specs.Layers.{Datagram, datagram, skipped, layer_of, IsEthernetIpv4}
+use Rattle.cd_packet.specs.declared.datagram.Reason.{Reason}
+use Rattle.cd_packet.specs.declared.packet.Packet.{Packet}
+use Rattle.cd_pcap.specs.Laws.{record_size}
+use Rattle.cd_engine.specs.Events.{event_found, event_of}
+
+-- the event of a packet that holds this datagram
+pub made : (rules : EventRules) (p : Packet) (d : Datagram) (e : EventParts) → layer_of rules.port p ≡ datagram d → e ≡ event_parts rules d →
+    length d.payload ≤ 65535 → Some e ≡ event_of rules p
+unfolding event_of
+made rules p d e is parts fits =
+    let found : event_found rules (datagram d) ≡ Some (event_parts rules d) = rw (le-ltb 65535 (length d.payload) fits) refl in
+    ap (λ x. Some x) parts ∙ sym found ∙ sym (ap (event_found rules) is)
+
+-- a packet without a datagram has none
+pub none_made : (rules : EventRules) (p : Packet) (r : Reason) → layer_of rules.port p ≡ skipped r → None ≡ event_of rules p
+unfolding event_of
+none_made rules p r is = sym (ap (event_found rules) is)
+
+-- nor has one whose layers are not read
+pub unread_made : (rules : EventRules) (p : Packet) → (IsEthernetIpv4 p → ⊥) → None ≡ event_of rules p
+unread_made rules p other = let k = layer_of-skipped rules.port p other in none_made rules p k.0 k.1
+
+-- it weighs no more than that of a datagram
+pub made_light : (rules : EventRules) (d : Datagram) (e : EventParts) → e ≡ event_parts rules d → length d.payload ≤ 65535 → e.weight ≤ GREATEST_WEIGHT
+made_light rules d e parts fits =
+    omega (arith, (event_weights_are_bounded rules d fits).greatest, ap (λ (x : EventParts). x.weight) parts)
+
+-- and than its record allows
+pub made_linear : (rules : EventRules) (p : Packet) (d : Datagram) (e : EventParts) → layer_of rules.port p ≡ datagram d → e ≡ event_parts rules d →
+    16 * e.weight ≤ 829 * record_size p
+made_linear rules p d e is parts =
+    omega (arith, event_weights_are_linear rules d, layer_within rules.port p d is, ap (λ (x : EventParts). x.weight) parts)
