@@ -129,12 +129,6 @@ fits_same : {E : Type 0} (view : E → EventView) (w : Seen E) (e : E) (next : S
     (is_waiting view w other j h && waits_still w.windows other (before_next next) (waits_at view j h) && agrees_with (waits_with (view e) next.index next.clock next.weight_sum) (waits_at view j h)) ≡ fits view w.windows e next j h
 fits_same {E} view w e next N heavy other j h opp le = by (same_side (view h.event).side other) refl
   where
-    agreed : Bool
-    agreed = identifiers_agree (view h.event) (view e)
-
-    inside : Bool
-    inside = is_in_window w.windows (stamped view j h) (with_stamp (view e) next)
-
     own : waits_still w.windows (view h.event).side (before_next next) (waits_at view j h) ≡ is_in_window w.windows (stamped view j h) (with_stamp (view e) next)
     own = let s = N.weight_sum in window_is w.windows (stamped view j h) (with_stamp (view e) next) next refl refl refl (let g : h.weight_sum + LEAST_WEIGHT ≤ next.weight_sum = omega arith in g)
 
