@@ -18,6 +18,7 @@ use Rattle.cd_window.specs.Places.{with_stamp, place_at, place_fits, NothingFits
 use Rattle.cd_window.specs.Waiting.{Waits, waits_with, waits_at, same_side, waits_from, is_waiting, waiting, stamped_waits, waits_still, agrees_with, agreeing}
 use Rattle.cd_window.specs.Joining.{before_next}
 use Rattle.cd_window.proofs.Closing.{open_parts, open_from, stands}
+use Rattle.cd_window.proofs.Conjunctions.{and_false}
 use Rattle.cd_window.proofs.Popped.{place_within}
 use Rattle.cd_window.proofs.Putting.{IsNext}
 use Rattle.cd_window.proofs.Picking.{waits_filter, waits_same, waits_first, waits_none}
@@ -101,10 +102,6 @@ fits_is true true false false false h = refl
 fits_is true false o b d h = refl
 fits_is false true o b d h = refl
 fits_is false false o b d h = refl
-
-and_false : (b : Bool) → (b && false) ≡ false
-and_false true = refl
-and_false false = refl
 
 -- whether what is held at this position may stand with the next event
 abbrev fits : {E : Type 0} → (E → EventView) → Windows → E → Stamp → ℕ → Held E → Bool
