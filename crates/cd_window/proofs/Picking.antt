@@ -9,6 +9,8 @@ use Rattle.cd_pairing.specs.Events.{EventView}
 use Rattle.cd_window.specs.declared.held.Held.{Held}
 use Rattle.cd_window.specs.Keeping.{StampsRise}
 use Rattle.cd_window.specs.Waiting.{Waits, waits_at, waits_from, RisesTo, AreRising, AllBefore, NoneBefore}
+use Rattle.cd_window.proofs.Closing.{top}
+use Rattle.cd_window.proofs.Conjunctions.{and_other, and_same}
 
 same_some : {E : Type 0} (x y : Held E) → Some x ≡ Some y → x ≡ y
 same_some x y e = cc
