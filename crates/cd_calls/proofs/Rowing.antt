@@ -4,7 +4,6 @@ use Rattle.std.specs.Prelude.{IsSome, IfSome, slice_get, slice_index_or, ◌<◌
 use Rattle.std.proofs.lemmas.Bool.{cases_Bool, eq-eqb, eqb-true, false_from_ne_true, both_ways, cond-true}
 use Rattle.std.proofs.lemmas.Option.{none-some}
 use Rattle.cd_chain.specs.Cells.{is_in}
-use Rattle.cd_chain.specs.Chains.{without}
 use Rattle.cd_chain.specs.Contents.{Contents, value_at, list_at, slots_of, after_in}
 use Rattle.cd_chain.specs.Lists.{InList, gone_from, put_in}
 use Rattle.cd_chain.specs.Calls.{PutsValue, AddsList}

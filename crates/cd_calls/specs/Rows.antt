@@ -1,5 +1,5 @@
 -- Three slots of a store that stand in one list of each lane.
-use Rattle.std.specs.Prelude.{◌≡◌, ℕ, List, [], ◌∷◌, Option, Some, IsSome}
+use Rattle.std.specs.Prelude.{◌≡◌, ℕ, [], ◌∷◌, Some, IsSome}
 use Rattle.cd_chain.specs.Contents.{Contents, value_at, list_at}
 
 -- the second of three slots is used, and the list of each lane has the three in order

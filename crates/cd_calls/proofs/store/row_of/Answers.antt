@@ -1,5 +1,5 @@
 -- the lists are there and empty
-use Rattle.std.proofs.Common.{◌≡◌, ℕ, ◌<◌, ◌+◌, arith, ◌∙◌, ap}
+use Rattle.std.proofs.Common.{◌≡◌, ◌+◌, arith, ◌∙◌, ap}
 use Rattle.cd_chain.specs.Contents.{list_count}
 use Rattle.cd_calls.proofs.Rowing.{added_here}
 use Rattle.cd_calls.proofs.store.row_of.Goals as goal
