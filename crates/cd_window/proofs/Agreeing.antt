@@ -12,16 +12,10 @@ use Rattle.cd_window.specs.declared.waiting.Waiting.{Waiting}
 use Rattle.cd_window.specs.Keys.{same_key, secondary_of}
 use Rattle.cd_window.specs.Waiting.{waits_of, agrees_with, AreRising, agreeing, but_at}
 use Rattle.cd_window.specs.Lists.{key_is, has_key, those, slots_in, shown, waits_in_slot, waits_in, Removes, agrees_in_slot, earlier_slot}
+use Rattle.cd_window.proofs.Conjunctions.{and_true}
+use Rattle.cd_window.proofs.Putting.{none_is}
 use Rattle.cd_window.proofs.Sublists.{filter_same, first_is}
 use Rattle.cd_window.proofs.Waits.{first_either, agreeing_slot, gone_waits}
-
-and_true : (a b : Bool) → b ≡ true → (a && b) ≡ a
-and_true true b h = h
-and_true false b h = refl
-
-none_is : {A : Type 0} (o : Option A) → is_none o ≡ true → o ≡ None
-none_is None h = refl
-none_is (Some x) h = absurd (both_ways _ refl h)
 
 secondary_none : (o : Option (List ℕ)) → secondaries_agree o None ≡ true
 secondary_none None = refl

@@ -43,7 +43,8 @@ pub record Stands {E : Type 0} (view : E → EventView) (c s : ℕ) (b : Held E)
   pub last_clock : b.clock ≤ lc
   pub last_sum : b.weight_sum ≤ ls
 
-top : {E : Type 0} (view : E → EventView) (c s : ℕ) (hs : List (Option (Held E))) (lc ls : ℕ) → StampsRise view c s hs lc ls → (c ≤ lc) × (s ≤ ls)
+-- the clock and the sum to which they rise
+pub top : {E : Type 0} (view : E → EventView) (c s : ℕ) (hs : List (Option (Held E))) (lc ls : ℕ) → StampsRise view c s hs lc ls → (c ≤ lc) × (s ≤ ls)
 top view c s [] lc ls h = h
 top view c s (None ∷ hs) lc ls h = top view c s hs lc ls h
 top view c s (Some x ∷ hs) lc ls h =

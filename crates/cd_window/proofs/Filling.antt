@@ -74,19 +74,7 @@ module _ {K : Type 0} (number : K → Option ℕ) (list : ℕ → Option (List �
         ];
   }
 
-  -- nor where the list of a key has a slot
-  pub filled_kept : (n : ℕ) (key : K) → number key ≡ Some n → (list n ≡ Some [] → ⊥) → AreFilled number list (λ k. eq key k) → AreFilled number list (λ k. false)
-  filled_kept n key e0 some F = record {
-    each = λ k j e b empty. elim (cases_Bool (eq key k)) [
-      | inl q ↦
-          let both : Some n ≡ Some j = sym e0 ∙ Q.numbers key k q ∙ e in
-          let same : n ≡ j = cc in
-          some (ap list same ∙ empty)
-      | inr q ↦ F.each k j e q empty
-    ];
-  }
-
-  -- nor where a key has no list
+  -- where a key has no list, none is empty
   pub filled_absent : (key : K) → number key ≡ None → AreFilled number list (λ k. eq key k) → AreFilled number list (λ k. false)
   filled_absent key e0 F = record {
     each = λ k j e b empty. elim (cases_Bool (eq key k)) [

@@ -14,6 +14,7 @@ use Rattle.cd_window.specs.Seen.{Seen, count_of, stamped, waits_after}
 use Rattle.cd_window.specs.Keeping.{Keeps}
 use Rattle.cd_window.specs.Places.{place_at, Trims, Takes}
 use Rattle.cd_window.specs.Waiting.{same_side, waits_from, is_waiting, waiting, but_at}
+use Rattle.cd_window.proofs.Conjunctions.{and_false, and_other}
 use Rattle.cd_window.proofs.Picking.{waits_filter, waits_same, waits_set, waits_drop}
 use Rattle.cd_window.proofs.Taking.{after}
 
@@ -25,14 +26,6 @@ left_picked {E} view test first gone rest mid new em T =
     ∙ waits_drop view test gone first (first + gone) mid refl T.empty T.within
     ∙ ap (waits_from view test first) em
     ∙ waits_set view test first 0 first rest None (omega arith) (λ h q. absurd (none-some h q))
-
-and_false : (b : Bool) → (b && false) ≡ false
-and_false true = refl
-and_false false = refl
-
-and_other : (b : Bool) (j i : ℕ) → (j ≡ i → ⊥) → b ≡ (b && not (eqb j i))
-and_other true j i ne = sym (ap not (ne_eqb j i ne))
-and_other false j i ne = refl
 
 -- a window counts the same events once the front is gone
 same_count : {E : Type 0} (view : E → EventView) (w : Seen E) (gone : ℕ) (new : List (Option (Held E))) (side : Side) → w.first + gone + length new ≡ count_of w →

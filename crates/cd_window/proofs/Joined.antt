@@ -16,6 +16,7 @@ use Rattle.cd_window.specs.Pushes.{with_partner}
 use Rattle.cd_window.specs.Places.{with_stamp, place_at, place_fits, HoldsNext, held_next}
 use Rattle.cd_window.specs.Waiting.{Waits, waits_with, waits_at, same_side, waits_from, waiting, waits_still, but_at, left_of, joined_by}
 use Rattle.cd_window.specs.Joining.{before_next, after_next, Meets, Joins}
+use Rattle.cd_window.proofs.Conjunctions.{and_false, and_other, swap_last}
 use Rattle.cd_window.proofs.Picking.{waits_filter, waits_same, waits_push, waits_set}
 use Rattle.cd_window.proofs.Partners.{side_is, still_sooner, FoundAt, Found}
 use Rattle.cd_window.proofs.Putting.{grown, IsNext}
@@ -26,10 +27,6 @@ waits_by view windows now side j h = same_side (view h.event).side side && (is_n
 
 abbrev now_of : {E : Type 0} → Seen E → Stamp
 now_of w = record { index = count_of w; clock = w.clock; weight_sum = w.weight_sum }
-
-and_false : (b : Bool) → (b && false) ≡ false
-and_false true = refl
-and_false false = refl
 
 narrow_is : (n a b : Bool) → (b ≡ true → a ≡ true) → (n && a && b) ≡ (n && b)
 narrow_is true true b h = refl
@@ -56,20 +53,13 @@ filter_narrow view windows a b side i hs hi hc hs' =
     waits_filter view (waits_still windows side b) (waits_by view windows a side) i hs
     ∙ waits_same view (λ j h. waits_by view windows a side j h && waits_still windows side b (waits_at view j h)) (waits_by view windows b side) i hs (λ k j h e at. narrow view windows a b side j h hi hc hs')
 
-swap_and : (a b c : Bool) → (a && c && b) ≡ (a && b && c)
-swap_and true true true = refl
-swap_and true true false = refl
-swap_and true false true = refl
-swap_and true false false = refl
-swap_and false b c = refl
-
 filter_narrow_but : {E : Type 0} (view : E → EventView) (windows : Windows) (a b : Stamp) (side : Side) (i n : ℕ) (hs : List (Option (Held E))) → a.index ≤ b.index → a.clock ≤ b.clock → a.weight_sum ≤ b.weight_sum →
     filter (waits_still windows side b) (but_at n (waits_from view (waits_by view windows a side) i hs)) ≡ waits_from view (λ j h. waits_by view windows b side j h && not (eqb j n)) i hs
 filter_narrow_but {E} view windows a b side i n hs hi hc hs' =
     ap (filter (waits_still windows side b)) (waits_filter view (λ x. not (eqb x.index n)) (waits_by view windows a side) i hs)
     ∙ waits_filter view (waits_still windows side b) (λ j h. waits_by view windows a side j h && not (eqb j n)) i hs
     ∙ waits_same view (λ j h. waits_by view windows a side j h && not (eqb j n) && waits_still windows side b (waits_at view j h)) (λ j h. waits_by view windows b side j h && not (eqb j n)) i hs
-    (λ k j h e at. swap_and (waits_by view windows a side j h) (waits_still windows side b (waits_at view j h)) (not (eqb j n)) ∙ ap (λ (t : Bool). t && not (eqb j n)) (narrow view windows a b side j h hi hc hs'))
+    (λ k j h e at. swap_last (waits_by view windows a side j h) (waits_still windows side b (waits_at view j h)) (not (eqb j n)) ∙ ap (λ (t : Bool). t && not (eqb j n)) (narrow view windows a b side j h hi hc hs'))
 
 -- a filter that is wider changes nothing
 filter_wider : (p q : Waits → Bool) → ((x : Waits) → p x ≡ true → q x ≡ true) → (xs : List Waits) → filter p (filter q xs) ≡ filter p xs
@@ -199,10 +189,6 @@ own_waits {E} view w e next met new N count F H own = elim F [
       ∙ ap (waits_from view T w.first) (sym held_is)
       ∙ sym grown_is
 ]
-  where
-    and_other : (b : Bool) (j i : ℕ) → (j ≡ i → ⊥) → b ≡ (b && not (eqb j i))
-    and_other true j i ne = sym (ap not (ne_eqb j i ne))
-    and_other false j i ne = refl
 
 -- another side, once the next event is held
 pub other_waits : {E : Type 0} (view : E → EventView) (w : Seen E) (e : E) (next : Stamp) (met : Option ℕ) (new : List (Option (Held E))) (side : Side) → IsNext view w e next → w.first + length new ≡ next.index + 1 → Found view w e next met → HoldsNext w.first w.held e next met new → same_side (view e).side side ≡ false →

@@ -235,10 +235,6 @@ pub first_in : (xs : List ℕ) (s : ℕ) → slice_get xs 0 ≡ Some s → is_in
 first_in [] s e = absurd (none-some s e)
 first_in (x ∷ xs) s e = let same : s ≡ x = cc in rw (eq-eqb s x same) refl
 
--- the store shows the event of a slot that holds one
-pub shown_at : (it : Contents Waiter) (s : ℕ) (w : Waiter) → value_at it s ≡ Some w → waits_in_slot it s ≡ waits_of w
-shown_at it s w e = ap shown e
-
 list_of_key : {S : Type 0} (m : IndexMap Key ℕ S) (it : Contents Waiter) (lane : ℕ) (slots : List ℕ) (key : Key) (o : Option ℕ) → IsIndexed it m lane slots → o ≡ number_of m key → IfSome o (λ k. IsSome (list_at it lane k))
 list_of_key m it lane slots key None A e = tt
 list_of_key m it lane slots key (Some k) A e = subst (λ (u : Option (List ℕ)). IsSome u) (sym (A.lists key k (sym e))) refl

@@ -18,6 +18,7 @@ use Rattle.cd_window.specs.Places.{with_stamp, place_at, place_fits, NothingFits
 use Rattle.cd_window.specs.Waiting.{Waits, waits_with, waits_at, same_side, waits_from, is_waiting, waiting, stamped_waits, waits_still, agrees_with, agreeing}
 use Rattle.cd_window.specs.Joining.{before_next}
 use Rattle.cd_window.proofs.Closing.{open_parts, open_from, stands}
+use Rattle.cd_window.proofs.Conjunctions.{and_false}
 use Rattle.cd_window.proofs.Popped.{place_within}
 use Rattle.cd_window.proofs.Putting.{IsNext}
 use Rattle.cd_window.proofs.Picking.{waits_filter, waits_same, waits_first, waits_none}
@@ -102,10 +103,6 @@ fits_is true false o b d h = refl
 fits_is false true o b d h = refl
 fits_is false false o b d h = refl
 
-and_false : (b : Bool) → (b && false) ≡ false
-and_false true = refl
-and_false false = refl
-
 -- whether what is held at this position may stand with the next event
 abbrev fits : {E : Type 0} → (E → EventView) → Windows → E → Stamp → ℕ → Held E → Bool
 fits view windows e next j h = is_none h.partner && may_pair windows (stamped view j h) (with_stamp (view e) next)
@@ -129,12 +126,6 @@ fits_same : {E : Type 0} (view : E → EventView) (w : Seen E) (e : E) (next : S
     (is_waiting view w other j h && waits_still w.windows other (before_next next) (waits_at view j h) && agrees_with (waits_with (view e) next.index next.clock next.weight_sum) (waits_at view j h)) ≡ fits view w.windows e next j h
 fits_same {E} view w e next N heavy other j h opp le = by (same_side (view h.event).side other) refl
   where
-    agreed : Bool
-    agreed = identifiers_agree (view h.event) (view e)
-
-    inside : Bool
-    inside = is_in_window w.windows (stamped view j h) (with_stamp (view e) next)
-
     own : waits_still w.windows (view h.event).side (before_next next) (waits_at view j h) ≡ is_in_window w.windows (stamped view j h) (with_stamp (view e) next)
     own = let s = N.weight_sum in window_is w.windows (stamped view j h) (with_stamp (view e) next) next refl refl refl (let g : h.weight_sum + LEAST_WEIGHT ≤ next.weight_sum = omega arith in g)
 

@@ -9,6 +9,8 @@ use Rattle.cd_pairing.specs.Events.{EventView}
 use Rattle.cd_window.specs.declared.held.Held.{Held}
 use Rattle.cd_window.specs.Keeping.{StampsRise}
 use Rattle.cd_window.specs.Waiting.{Waits, waits_at, waits_from, RisesTo, AreRising, AllBefore, NoneBefore}
+use Rattle.cd_window.proofs.Closing.{top}
+use Rattle.cd_window.proofs.Conjunctions.{and_other, and_same}
 
 same_some : {E : Type 0} (x y : Held E) → Some x ≡ Some y → x ≡ y
 same_some x y e = cc
@@ -46,14 +48,6 @@ module _ {E : Type 0} (view : E → EventView) where
         | inr t ↦ rw t r
       ]
 
-  and_not_other : (b : Bool) (j n : ℕ) → (j ≡ n → ⊥) → b ≡ (b && not (eqb j n))
-  and_not_other true j n ne = sym (ap not (ne_eqb j n ne))
-  and_not_other false j n ne = refl
-
-  and_not_same : (b : Bool) (j n : ℕ) → j ≡ n → (b && not (eqb j n)) ≡ false
-  and_not_same true j n e = ap not (eq-eqb j n e)
-  and_not_same false j n e = refl
-
   -- another thing at a place, which does not pass
   pub waits_set : (test : ℕ → Held E → Bool) (i k n : ℕ) (hs : List (Option (Held E))) (o : Option (Held E)) → n ≡ i + k → ((h : Held E) → o ≡ Some h → test n h ≡ false) → waits_from view test i (set hs k o) ≡ waits_from view (λ j h. test j h && not (eqb j n)) i hs
   waits_set test i zero n [] o e fails = refl
@@ -61,7 +55,7 @@ module _ {E : Type 0} (view : E → EventView) where
   waits_set test i zero n (y ∷ hs) o e fails =
       let z : i ≡ n = omega arith in
       gone o fails
-      ∙ waits_same test (λ j h. test j h && not (eqb j n)) (suc i) hs (λ k j h q at. and_not_other (test j h) j n (λ s. omega arith))
+      ∙ waits_same test (λ j h. test j h && not (eqb j n)) (suc i) hs (λ k j h q at. and_other (test j h) j n (λ s. omega arith))
       ∙ sym (dropped y)
     where
       gone : (u : Option (Held E)) → ((h : Held E) → u ≡ Some h → test n h ≡ false) → waits_from view test i (u ∷ hs) ≡ waits_from view test (suc i) hs
@@ -70,11 +64,11 @@ module _ {E : Type 0} (view : E → EventView) where
 
       dropped : (u : Option (Held E)) → waits_from view (λ j h. test j h && not (eqb j n)) i (u ∷ hs) ≡ waits_from view (λ j h. test j h && not (eqb j n)) (suc i) hs
       dropped None = refl
-      dropped (Some h) = rw (and_not_same (test i h) i n (omega arith)) refl
+      dropped (Some h) = rw (and_same (test i h) i n (omega arith)) refl
   waits_set test i (suc k) n (None ∷ hs) o e fails = waits_set test (suc i) k n hs o (omega arith) fails
   waits_set test i (suc k) n (Some h ∷ hs) o e fails =
       let r = waits_set test (suc i) k n hs o (omega arith) fails in
-      let same : test i h ≡ (test i h && not (eqb i n)) = and_not_other (test i h) i n (λ s. omega arith) in
+      let same : test i h ≡ (test i h && not (eqb i n)) = and_other (test i h) i n (λ s. omega arith) in
       ap (λ (ws : List Waits). cond (test i h) (waits_at view i h ∷ ws) ws) r
       ∙ ap (λ (b : Bool). cond b (waits_at view i h ∷ waits_from view (λ j x. test j x && not (eqb j n)) (suc i) hs) (waits_from view (λ j x. test j x && not (eqb j n)) (suc i) hs)) same
 
@@ -176,23 +170,12 @@ module _ {E : Type 0} (view : E → EventView) where
         | inr t ↦ rw t r
       ]
 
-  top : (c s : ℕ) (hs : List (Option (Held E))) (lc ls : ℕ) → StampsRise view c s hs lc ls → (c ≤ lc) × (s ≤ ls)
-  top c s [] lc ls h = h
-  top c s (None ∷ hs) lc ls h = top c s hs lc ls h
-  top c s (Some x ∷ hs) lc ls h =
-      let a = h.0 in
-      let b = h.1 in
-      let t = top x.clock x.weight_sum hs lc ls h.2 in
-      let u = t.0 in
-      let v = t.1 in
-      (omega arith, omega arith)
-
   pub waits_before : (test : ℕ → Held E → Bool) (i n c s : ℕ) (hs : List (Option (Held E))) (lc ls : ℕ) → n ≡ i + length hs → StampsRise view c s hs lc ls → AllBefore n lc ls (waits_from view test i hs)
   waits_before test i n c s [] lc ls e h = tt
   waits_before test i n c s (None ∷ hs) lc ls e h = waits_before test (suc i) n c s hs lc ls (omega arith) h
   waits_before test i n c s (Some y ∷ hs) lc ls e h =
       let r = waits_before test (suc i) n y.clock y.weight_sum hs lc ls (omega arith) h.2 in
-      let t = top y.clock y.weight_sum hs lc ls h.2 in
+      let t = top view y.clock y.weight_sum hs lc ls h.2 in
       elim (cases_Bool (test i y)) [
         | inl q ↦ rw q (record { position = omega arith; time = t.0; sum = t.1 }, r)
         | inr q ↦ rw q r

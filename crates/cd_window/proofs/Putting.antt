@@ -43,7 +43,7 @@ held_is_next {E} view w e next o N =
     ap (λ (x : ℕ). let r : Held E = record { event = e; clock = x; weight_sum = next.weight_sum; partner = o } in r) N.clock
     ∙ ap (λ (x : ℕ). let r : Held E = record { event = e; clock = max w.clock (view e).time; weight_sum = x; partner = o } in r) N.weight_sum
 
-none_is : (o : Option ℕ) → is_none o ≡ true → o ≡ None
+pub none_is : {A : Type 0} (o : Option A) → is_none o ≡ true → o ≡ None
 none_is None h = refl
 none_is (Some x) h = absurd (true≢false (sym h))
 

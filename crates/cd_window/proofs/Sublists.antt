@@ -73,14 +73,6 @@ first_is p (x ∷ xs) s e = elim (cases_Bool (p x)) [
       (tail_in s x xs r.0, r.1)
 ]
 
--- where nothing is first, nothing passes
-pub none_first : (p : ℕ → Bool) (xs : List ℕ) → slice_get (filter p xs) 0 ≡ None → filter p xs ≡ []
-none_first p xs e = empty (filter p xs) e
-  where
-    empty : (ys : List ℕ) → slice_get ys 0 ≡ None → ys ≡ []
-    empty [] h = refl
-    empty (y ∷ ys) h = absurd (none-some y (sym h))
-
 -- a slot goes from a part as from the list
 pub filter_without : (p q : ℕ → Bool) (s : ℕ) (xs : List ℕ) → ((t : ℕ) → eqb s t ≡ false → q t ≡ p t) → filter q (without s xs) ≡ without s (filter p xs)
 filter_without p q s [] h = refl
