@@ -30,7 +30,8 @@ use Rattle.cd_engine.specs.declared.ended.Ended.TheVariants as ended
 use Rattle.cd_engine.specs.declared.refusal.Refusal.{Refusal}
 use Rattle.cd_engine.specs.declared.refusal.Refusal.TheVariants as refused
 use Rattle.cd_engine.proofs.OneFile.{file_is_whole, front_is_closed_part, counts_hold}
-use Rattle.cd_engine.proofs.Refusing.{refusal-few, served_unrefused}
+use Rattle.cd_engine.proofs.Refusing.{served_unrefused}
+use Rattle.cd_engine.specs.CapturesGo.{refusal_few}
 
 -- how a refusal, or else something, ends a compaction
 ended_refused : (o : Option Refusal) (other : Stop Refusal) → ended_of (drives.refused_or o other) ≡ refused_or o (ended_of other)
@@ -212,7 +213,7 @@ nothing_taken s so ko = record {
     last = [];
     split = refl;
     chunk = omega arith;
-    undecided = refusal-few (rules_of s) [] (omega arith);
+    undecided = refusal_few (rules_of s) [] (omega arith);
     within = omega arith;
     few = omega arith;
   };

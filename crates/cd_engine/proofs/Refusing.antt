@@ -16,16 +16,12 @@ use Rattle.cd_pcap.specs.Pcap.{is_little_micro, pcap}
 use Rattle.cd_pcap.proofs.Extending.{pcap-grow}
 use Rattle.cd_pcap.proofs.Records.{pcap-magic, pcap-none}
 use Rattle.cd_pcap.proofs.Refusals.{packets_before}
+use Rattle.cd_engine.specs.CapturesGo.{none_chosen, other_few, other_stays, other_unread, refusal_few, refusal_many, at_end_other, at_end_read}
 use Rattle.cd_engine.specs.Counting.{is_cut, is_cut_short}
 use Rattle.cd_engine.specs.Events.{event_of}
 use Rattle.cd_engine.specs.Refusals.{is_other_format, first_unserved, refusal_of_end, refusal_after, refusal_of_capture, refusal_at_end, refusal, before_refusal, compacted_packets}
 use Rattle.cd_engine.specs.declared.refusal.Refusal.{Refusal}
 use Rattle.cd_engine.specs.declared.refusal.Refusal.TheVariants.{BadCapture as RefusedCapture, NotYet}
-
--- a choice that gives nothing
-none_chosen : (b : Bool) (x : Option ℕ) (at : ℕ) → cond b x (Some at) ≡ None → (b ≡ true) × (x ≡ None)
-none_chosen true x at e = (refl, e)
-none_chosen false x at e = absurd cc
 
 -- a choice that gives a place gives it with another first part that does
 some_chosen : (b : Bool) (x y : Option ℕ) (here at : ℕ) → (x ≡ Some at → y ≡ Some at) → cond b x (Some here) ≡ Some at →
@@ -49,48 +45,13 @@ unserved-append rules (p ∷ ps) qs at e =
     some_chosen (is_some (event_of rules p)) (first_unserved rules ps) (first_unserved rules (ps ++ qs)) p.at at
     (unserved-append rules ps qs at) e
 
--- fewer than four bytes are of no format that is not read yet
-other-few : (bytes : List ℕ) → length bytes < 4 → is_other_format bytes ≡ false
-unfolding is_other_format
-other-few bytes few =
-    rw (has_magic-few 0xd4c3b2a1 bytes few, has_magic-few 0xa1b23c4d bytes few, has_magic-few 0x4d3cb2a1 bytes few, has_magic-few 0x0a0d0d0a bytes few) refl
-
--- from four bytes on, these four decide that
-pub other-append : (xs ys : List ℕ) → 4 ≤ length xs → is_other_format (xs ++ ys) ≡ is_other_format xs
-unfolding is_other_format
-other-append xs ys four =
-    rw (has_magic-append 0xd4c3b2a1 xs ys four, has_magic-append 0xa1b23c4d xs ys four, has_magic-append 0x4d3cb2a1 xs ys four, has_magic-append 0x0a0d0d0a xs ys four) refl
-
--- a format that is not read is not the one that is
-other-not_read : (bytes : List ℕ) → 4 ≤ length bytes → is_other_format bytes ≡ true → is_little_micro bytes ≡ false
-unfolding is_other_format
-other-not_read bytes four other =
-    elim (cases_Bool (is_little_micro bytes)) [
-      | inr other_magic ↦ other_magic
-      | inl little ↦
-          let magic : le32 0 bytes ≡ 0xa1b2c3d4 = eqb-true (le32 0 bytes) 0xa1b2c3d4 (sym (has_magic-many 0xa1b2c3d4 bytes four) ∙ little) in
-          let test : (n : ℕ) → has_magic n bytes ≡ nat_eq 0xa1b2c3d4 n = λ n. has_magic-many n bytes four ∙ ap (λ k. nat_eq k n) magic in
-          let none : is_other_format bytes ≡ false = rw (test 0xd4c3b2a1, test 0xa1b23c4d, test 0x4d3cb2a1, test 0x0a0d0d0a) refl in
-          absurd (false≢true (sym none ∙ other))
-    ]
-
 -- fewer than four bytes have no packet
 pub packets-few : (bytes : List ℕ) → length bytes < 4 → (pcap bytes).packets ≡ []
 packets-few bytes few = ap (λ (c : Capture). c.packets) (pcap-magic bytes (has_magic-few 0xa1b2c3d4 bytes few))
 
 -- nor have bytes of another format
 pub packets-other : (bytes : List ℕ) → 4 ≤ length bytes → is_other_format bytes ≡ true → (pcap bytes).packets ≡ []
-packets-other bytes four other = ap (λ (c : Capture). c.packets) (pcap-magic bytes (other-not_read bytes four other))
-
--- fewer than four bytes are refused for nothing yet
-pub refusal-few : (rules : EventRules) (bytes : List ℕ) → length bytes < 4 → refusal rules bytes ≡ None
-unfolding refusal
-refusal-few rules bytes few = rw (lt-ltb (length bytes) 4 few) refl
-
--- from four bytes on, they are refused as at their end
-pub refusal-many : (rules : EventRules) (bytes : List ℕ) → 4 ≤ length bytes → refusal rules bytes ≡ refusal_at_end rules bytes
-unfolding refusal
-refusal-many rules bytes many = rw (le-ltb (length bytes) 4 many) refl
+packets-other bytes four other = ap (λ (c : Capture). c.packets) (pcap-magic bytes (other_unread bytes other))
 
 refusal_chosen : (few : Bool) (o : Option Refusal) (r : Refusal) → cond few None o ≡ Some r → (few ≡ false) × (o ≡ Some r)
 refusal_chosen true o r e = absurd cc
@@ -104,22 +65,11 @@ refusal-told rules bytes r e =
     let k = refusal_chosen (nat_lt (length bytes) 4) (refusal_at_end rules bytes) r e in
     (ltb-false (length bytes) 4 k.0, k.1)
 
--- another format is refused whole
-pub at_end-other : (rules : EventRules) (bytes : List ℕ) → is_other_format bytes ≡ true → refusal_at_end rules bytes ≡ Some (NotYet 0)
-unfolding refusal_at_end
-at_end-other rules bytes other = rw other refl
-
--- the one that is read is refused as its capture is
-pub at_end-read : (rules : EventRules) (bytes : List ℕ) → is_other_format bytes ≡ false →
-    refusal_at_end rules bytes ≡ refusal_of_capture rules (pcap bytes)
-unfolding refusal_at_end
-at_end-read rules bytes read = rw read refl
-
 -- at their end, fewer than four bytes are refused as a capture without a packet and with their end
 pub at_end-few : (rules : EventRules) (bytes : List ℕ) → length bytes < 4 →
     refusal_at_end rules bytes ≡ refusal_of_end (pcap bytes).end
 at_end-few rules bytes few =
-    at_end-read rules bytes (other-few bytes few)
+    at_end_read rules bytes (other_few bytes few)
     ∙ ap (λ ps. refusal_after (first_unserved rules ps) (pcap bytes).end) (packets-few bytes few)
 
 -- the packets that are compacted, by what their bytes are refused for
@@ -140,7 +90,7 @@ compacted-few rules bytes few =
 
 -- nor of another format
 pub compacted-other : (rules : EventRules) (bytes : List ℕ) → is_other_format bytes ≡ true → compacted_packets rules bytes ≡ []
-compacted-other rules bytes other = compacted-at rules bytes (Some (NotYet 0)) (at_end-other rules bytes other) ∙ no_packets
+compacted-other rules bytes other = compacted-at rules bytes (Some (NotYet 0)) (at_end_other rules bytes other) ∙ no_packets
 
 -- What is refused stays so as more bytes come, and the same packets are compacted.
 pub record StaysRefused (rules : EventRules) (fed more : List ℕ) (r : Refusal) : Type 0 where
@@ -152,12 +102,12 @@ four_more : (xs ys : List ℕ) → 4 ≤ length xs → 4 ≤ length (xs ++ ys)
 four_more xs ys four = omega (arith, length-append xs ys)
 
 -- another format stays so
-other_stays : (rules : EventRules) (fed more : List ℕ) → 4 ≤ length fed → is_other_format fed ≡ true →
+other_format_stays : (rules : EventRules) (fed more : List ℕ) → 4 ≤ length fed → is_other_format fed ≡ true →
     StaysRefused rules fed more (NotYet 0)
-other_stays rules fed more four other =
-    let later : is_other_format (fed ++ more) ≡ true = other-append fed more four ∙ other in
+other_format_stays rules fed more four other =
+    let later : is_other_format (fed ++ more) ≡ true = other_stays fed more four ∙ other in
     record {
-      refused = refusal-many rules (fed ++ more) (four_more fed more four) ∙ at_end-other rules (fed ++ more) later;
+      refused = refusal_many rules (fed ++ more) (four_more fed more four) ∙ at_end_other rules (fed ++ more) later;
       packets = compacted-other rules (fed ++ more) later ∙ sym (compacted-other rules fed other);
     }
 
@@ -167,14 +117,14 @@ unserved_stays : (rules : EventRules) (fed more : List ℕ) (at : ℕ) → 4 ≤
 unserved_stays rules fed more at four read first within =
     let g : Grows (pcap fed) (pcap (fed ++ more)) = pcap-grow fed more four in
     let now : refusal_at_end rules fed ≡ Some (NotYet at) =
-    at_end-read rules fed read ∙ ap (λ o. refusal_after o (pcap fed).end) first in
+    at_end_read rules fed read ∙ ap (λ o. refusal_after o (pcap fed).end) first in
     let later : refusal_at_end rules (fed ++ more) ≡ Some (NotYet at) =
-    at_end-read rules (fed ++ more) (other-append fed more four ∙ read)
+    at_end_read rules (fed ++ more) (other_stays fed more four ∙ read)
     ∙ ap (λ (c : Capture). refusal_of_capture rules c) g.packets
     ∙ ap (λ o. refusal_after o g.rest.end) (unserved-append rules (pcap fed).packets g.rest.packets at first) in
     let same : take at (fed ++ more) ≡ take at fed = take-append-le at fed more within in
     record {
-      refused = refusal-many rules (fed ++ more) (four_more fed more four) ∙ later;
+      refused = refusal_many rules (fed ++ more) (four_more fed more four) ∙ later;
       packets = compacted-at rules (fed ++ more) _ later ∙ ap (λ t. (pcap t).packets) same ∙ sym (compacted-at rules fed _ now);
     }
 
@@ -189,13 +139,13 @@ bad_stays rules fed more b four read served bad =
     let packets : (pcap (fed ++ more)).packets ≡ (pcap fed).packets =
     ap (λ (c : Capture). c.packets) g.packets ∙ ap (λ (c : Capture). (pcap fed).packets ++ c.packets) rest ∙ append-nil (pcap fed).packets in
     let now : refusal_at_end rules fed ≡ Some (RefusedCapture b) =
-    at_end-read rules fed read ∙ ap (λ o. refusal_after o (pcap fed).end) served ∙ ap refusal_of_end bad in
+    at_end_read rules fed read ∙ ap (λ o. refusal_after o (pcap fed).end) served ∙ ap refusal_of_end bad in
     let later : refusal_at_end rules (fed ++ more) ≡ Some (RefusedCapture b) =
-    at_end-read rules (fed ++ more) (other-append fed more four ∙ read)
+    at_end_read rules (fed ++ more) (other_stays fed more four ∙ read)
     ∙ ap (λ ps. refusal_after (first_unserved rules ps) (pcap (fed ++ more)).end) packets
     ∙ ap (λ o. refusal_after o (pcap (fed ++ more)).end) served ∙ ap refusal_of_end end in
     record {
-      refused = refusal-many rules (fed ++ more) (four_more fed more four) ∙ later;
+      refused = refusal_many rules (fed ++ more) (four_more fed more four) ∙ later;
       packets = compacted-at rules (fed ++ more) _ later ∙ packets_before (fed ++ more) b end ∙ packets
           ∙ sym (packets_before fed b bad) ∙ sym (compacted-at rules fed _ now);
     }
@@ -222,13 +172,13 @@ stays_refused rules fed more r e within =
     let k = refusal-told rules fed r e in
     elim (cases_Bool (is_other_format fed)) [
       | inl other ↦
-          let told : Some (NotYet 0) ≡ Some r = sym (at_end-other rules fed other) ∙ k.1 in
+          let told : Some (NotYet 0) ≡ Some r = sym (at_end_other rules fed other) ∙ k.1 in
           let same : NotYet 0 ≡ r = cc in
           let P : Refusal → Type 0 = λ q. StaysRefused rules fed more q in
-          subst P same (other_stays rules fed more k.0 other)
+          subst P same (other_format_stays rules fed more k.0 other)
       | inr read ↦
           read_stays rules fed more r (first_unserved rules (pcap fed).packets) (pcap fed).end k.0 read refl refl
-          (sym (at_end-read rules fed read) ∙ k.1) within
+          (sym (at_end_read rules fed read) ∙ k.1) within
     ]
 
 -- nothing that a place is refused for, whatever the end
@@ -243,11 +193,11 @@ at_end_known rules fed none =
     elim (cases_lt (length fed) 4) [
       | inl few ↦ sym (at_end-few rules fed few)
       | inr four ↦
-          let told : refusal_at_end rules fed ≡ None = sym (refusal-many rules fed four) ∙ none in
+          let told : refusal_at_end rules fed ≡ None = sym (refusal_many rules fed four) ∙ none in
           elim (cases_Bool (is_other_format fed)) [
-            | inl other ↦ let no : Some (NotYet 0) ≡ None = sym (at_end-other rules fed other) ∙ told in absurd cc
+            | inl other ↦ let no : Some (NotYet 0) ≡ None = sym (at_end_other rules fed other) ∙ told in absurd cc
             | inr read ↦
-                after_none (first_unserved rules (pcap fed).packets) (pcap fed).end (sym (at_end-read rules fed read) ∙ told) ∙ sym told
+                after_none (first_unserved rules (pcap fed).packets) (pcap fed).end (sym (at_end_read rules fed read) ∙ told) ∙ sym told
           ]
     ]
 
@@ -265,7 +215,7 @@ cut_known rules fed None end is known =
           end_is ∙ ap is_cut bad
           ∙ sym (ap (λ o. is_cut_short o (pcap fed).end) (at_end-few rules fed few ∙ ap refusal_of_end bad))
       | inr four ↦
-          let none : refusal_at_end rules fed ≡ None = sym (refusal-many rules fed four) ∙ sym is in
+          let none : refusal_at_end rules fed ≡ None = sym (refusal_many rules fed four) ∙ sym is in
           end_is ∙ sym (ap (λ o. is_cut_short o (pcap fed).end) none)
     ]
 
@@ -290,10 +240,10 @@ served_unrefused rules bytes end served =
     elim (cases_lt (length bytes) 4) [
       | inl few ↦ absurd (no_capture bytes (has_magic-few 0xa1b2c3d4 bytes few) end)
       | inr four ↦ elim (cases_Bool (is_other_format bytes)) [
-        | inl other ↦ absurd (no_capture bytes (other-not_read bytes four other) end)
+        | inl other ↦ absurd (no_capture bytes (other_unread bytes other) end)
         | inr read ↦
             let none : refusal_at_end rules bytes ≡ None =
-            at_end-read rules bytes read ∙ ap (λ o. refusal_after o (pcap bytes).end) served ∙ open_end (pcap bytes).end end in
-            record { now = refusal-many rules bytes four ∙ none; at_end = none }
+            at_end_read rules bytes read ∙ ap (λ o. refusal_after o (pcap bytes).end) served ∙ open_end (pcap bytes).end end in
+            record { now = refusal_many rules bytes four ∙ none; at_end = none }
       ]
     ]

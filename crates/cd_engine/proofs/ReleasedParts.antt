@@ -11,9 +11,7 @@ use Rattle.cd_ident.specs.Events.{EventParts}
 use Rattle.cd_ident.specs.Keys.{parts_of, view_of}
 use Rattle.cd_ident.specs.declared.event.Event.{Event}
 use Rattle.cd_ident.specs.declared.event.Kind.{Kind}
-use Rattle.cd_pairing.proofs.Finding.{exists}
 use Rattle.cd_pairing.specs.Events.{EventView}
-use Rattle.cd_pairing.specs.Pairing.{are_compatible, IsPairing}
 use Rattle.cd_pairing.specs.Records.{Record, pair, single, records, released_records}
 use Rattle.cd_pairing.specs.declared.keyed.Windows.{Windows}
 use Rattle.cd_window.proofs.Ready.{due_is_popped}
@@ -24,6 +22,7 @@ use Rattle.cd_window.specs.declared.released.Released.{Released}
 use Rattle.cd_window.specs.declared.released.Released.TheVariants.{Pair, One}
 use Rattle.cd_engine.specs.Behaving.{partners_of, settled_records, all_records}
 use Rattle.cd_engine.specs.Blocks.{released_parts}
+use Rattle.cd_engine.specs.RecordsGo.{partners_pair}
 use Rattle.cd_engine.specs.Records.{windows_of, views_of, single_record, pair_of_kind, pair_record, record_at, records_at}
 
 -- the parts of an event that was pushed stand at its position
@@ -68,17 +67,12 @@ views_told : (pushed : List Event) → map view_of pushed ≡ views_of (map part
 views_told [] = refl
 views_told (e ∷ pushed) = ap (λ (vs : List EventView). view_of e ∷ vs) (views_told pushed)
 
--- the partners are those of the one pairing
-pairing_of : (windows : Windows) (views : List EventView) → IsPairing windows views (partners_of windows views)
-unfolding partners_of
-pairing_of windows views = (exists (are_compatible windows views) (length views)).holds
-
 -- where no record is ready, what was popped before the end was told is what no later event changes
 due_told : (s : Settings) (w : Seen Event) (pushed : List Event) (popped : List (Released Event)) →
     StandsFor view_of w pushed popped → w.windows ≡ windows_of s → IsTrimmed w → is_ready view_of w ≡ false → w.finished ≡ false →
     AreRecords view_of pushed (released_records (windows_of s) (views_of (map parts_of pushed)) (partners_of (windows_of s) (views_of (map parts_of pushed)))) popped
 due_told s w pushed popped S same trim idle going =
-    let known = (due_is_popped view_of w pushed popped (partners_of w.windows (map view_of pushed)) S trim idle (pairing_of w.windows (map view_of pushed))).0 going in
+    let known = (due_is_popped view_of w pushed popped (partners_of w.windows (map view_of pushed)) S trim idle (partners_pair w.windows (map view_of pushed))).0 going in
     subst (λ (views : List EventView). AreRecords view_of pushed (released_records (windows_of s) views (partners_of (windows_of s) views)) popped) (views_told pushed)
     (subst (λ (windows : Windows). AreRecords view_of pushed (released_records windows (map view_of pushed) (partners_of windows (map view_of pushed))) popped) same known)
 
@@ -94,7 +88,7 @@ whole_told : (s : Settings) (w : Seen Event) (pushed : List Event) (popped : Lis
     StandsFor view_of w pushed popped → w.windows ≡ windows_of s → IsTrimmed w → is_ready view_of w ≡ false → w.finished ≡ true →
     AreRecords view_of pushed (records (partners_of (windows_of s) (views_of (map parts_of pushed)))) popped
 whole_told s w pushed popped S same trim idle done =
-    let known = (due_is_popped view_of w pushed popped (partners_of w.windows (map view_of pushed)) S trim idle (pairing_of w.windows (map view_of pushed))).1 done in
+    let known = (due_is_popped view_of w pushed popped (partners_of w.windows (map view_of pushed)) S trim idle (partners_pair w.windows (map view_of pushed))).1 done in
     subst (λ (views : List EventView). AreRecords view_of pushed (records (partners_of (windows_of s) views)) popped) (views_told pushed)
     (subst (λ (windows : Windows). AreRecords view_of pushed (records (partners_of windows (map view_of pushed))) popped) same known)
 

@@ -31,7 +31,8 @@ use Rattle.cd_engine.specs.declared.counts.PacketCounts.{PacketCounts}
 use Rattle.cd_engine.specs.declared.refusal.Refusal.{Refusal}
 use Rattle.cd_engine.specs.declared.refusal.Refusal.TheVariants.{BadCapture as RefusedCapture, NotYet}
 use Rattle.cd_engine.proofs.PacketCounting.{packets_more}
-use Rattle.cd_engine.proofs.Refusing.{served-append, packets-few, packets-other, refusal-few, refusal-many, other-append, at_end-other, at_end-read, compacted-at, compacted-few, compacted-other, stays_refused}
+use Rattle.cd_engine.proofs.Refusing.{served-append, packets-few, packets-other, compacted-at, compacted-few, compacted-other, stays_refused}
+use Rattle.cd_engine.specs.CapturesGo.{refusal_few, refusal_many, other_stays, at_end_other, at_end_read}
 
 -- a front of nothing is nothing
 none_of_none : (ps rest : List Packet) → ps ++ rest ≡ [] → ps ≡ []
@@ -155,7 +156,7 @@ first_few first bytes is few = omega (arith, ap length is, length-take 4 bytes)
 first_other : (first bytes : List ℕ) → first ≡ take 4 bytes → 4 ≤ length first → is_other_format bytes ≡ is_other_format first
 first_other first bytes is four =
     let size : 4 ≤ length (take 4 bytes) = omega (arith, ap length is) in
-    ap is_other_format (sym (take-append-drop 4 bytes)) ∙ other-append (take 4 bytes) (drop 4 bytes) size ∙ sym (ap is_other_format is)
+    ap is_other_format (sym (take-append-drop 4 bytes)) ∙ other_stays (take 4 bytes) (drop 4 bytes) size ∙ sym (ap is_other_format is)
 
 -- A chunk comes after bytes that are not refused: the reader and the first bytes are then these.
 pub record TakesChunk (c : CompactorSeen) (r : Kept) (first chunk : List ℕ) : Type 0 where
@@ -175,7 +176,7 @@ chunk_few c r first fed chunk cleared k few h =
     let none : h.given ≡ [] = none_given r bytes h.given reads (packets-few bytes short) in
     record {
       given = h.given;
-      refused = k.going ∙ sym (refusal-few rules bytes short);
+      refused = k.going ∙ sym (refusal_few rules bytes short);
       first = λ _. starts;
       reads = λ _. reads;
       place = λ at e. let no : None ≡ Some (NotYet at) = sym k.going ∙ e in absurd cc;
@@ -198,7 +199,7 @@ chunk_other c r first fed chunk cleared k four other h =
     let none : h.given ≡ [] = none_given r bytes h.given reads (packets-other bytes many same) in
     record {
       given = h.given;
-      refused = sym (refusal-many rules bytes many ∙ at_end-other rules bytes same);
+      refused = sym (refusal_many rules bytes many ∙ at_end_other rules bytes same);
       first = λ e. absurd cc;
       reads = λ e. absurd cc;
       place = λ at e. let zero_at : 0 ≡ at = cc in omega (arith, zero_at);
@@ -231,10 +232,10 @@ taken_stands rules c bytes cleared refused same starts four read h =
     stands t =
         let many : 4 ≤ length bytes = first_many c.first bytes starts four in
         let format : is_other_format bytes ≡ false = first_other c.first bytes starts four ∙ read in
-        let told : refusal_at_end now bytes ≡ refused = at_end-read now bytes format ∙ sym t.refusal in
+        let told : refusal_at_end now bytes ≡ refused = at_end_read now bytes format ∙ sym t.refusal in
         record {
           given = t.given;
-          refused = sym (refusal-many now bytes many ∙ told);
+          refused = sym (refusal_many now bytes many ∙ told);
           first = λ _. starts;
           reads = t.reads;
           place = t.place;
@@ -268,7 +269,7 @@ new_stands r p b reads packets blocks =
     let rules : EventRules = rules_of b.filing.settings in
     record {
       given = [];
-      refused = sym (refusal-few rules [] (omega arith));
+      refused = sym (refusal_few rules [] (omega arith));
       first = λ _. refl;
       reads = λ _. reads;
       place = λ at e. absurd cc;

@@ -78,7 +78,7 @@ other_unread bytes other =
     ]
 
 -- a choice that gives nothing
-none_chosen : (b : Bool) (x : Option ℕ) (at : ℕ) → (if b then x else Some at) ≡ None → (b ≡ true) × (x ≡ None)
+pub none_chosen : (b : Bool) (x : Option ℕ) (at : ℕ) → (if b then x else Some at) ≡ None → (b ≡ true) × (x ≡ None)
 none_chosen true x at e = (refl, e)
 none_chosen false x at e = absurd cc
 
