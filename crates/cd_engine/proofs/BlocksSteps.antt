@@ -8,10 +8,11 @@ use Rattle.cd_hints.specs.declared.settings.Settings.{Settings}
 use Rattle.cd_ident.specs.Events.{EventParts}
 use Rattle.cd_ident.specs.Keys.{parts_of, view_of}
 use Rattle.cd_ident.specs.declared.event.Event.{Event}
+use Rattle.cd_pairing.specs.declared.keyed.Windows.{Windows}
 use Rattle.cd_record.specs.Runs.{limits_of}
 use Rattle.cd_window.specs.History.{StandsFor, listed}
 use Rattle.cd_window.specs.Pops.{IsPopped}
-use Rattle.cd_window.specs.Seen.{Seen}
+use Rattle.cd_window.specs.Seen.{Seen, empty_window}
 use Rattle.cd_window.specs.declared.released.Released.{Released}
 use Rattle.cd_engine.specs.Behaving.{cut_of, runs_of, settled_records, all_records, file_of_events, closed_part_of_events}
 use Rattle.cd_engine.specs.Blocks.{released_parts, HoldsTraffic, BlocksSeen, IsDrained, BlocksStand, blocks_seen, FilesPopped, FilesReady}
@@ -21,7 +22,21 @@ use Rattle.cd_engine.specs.Filing.{Filed, FilingStands, nothing_filed, filed_mor
 use Rattle.cd_engine.specs.Records.{windows_of}
 use Rattle.cd_engine.proofs.FilingSteps.{nothing_stands, more_stands, more_settings, cleared_stands, ended_is, ended_blocks}
 use Rattle.cd_engine.proofs.ReleasedParts.{settled_told, all_told}
-use Rattle.cd_engine.proofs.Traffic.{traffic_popped, popped_same, popped_kinds}
+use Rattle.cd_engine.proofs.Traffic.{nothing_held, traffic_popped, popped_same, popped_kinds}
+
+-- without an event no record is ready
+pub new_drained : (s : Settings) (windows : Windows) (w : Seen Event) (f : Filed) → windows ≡ windows_of s →
+    w ≡ empty_window windows → f ≡ nothing_filed s → IsDrained w f
+new_drained s windows w f same e g =
+    let P : Seen Event → Type 0 = λ v. IsDrained v f in
+    let Q : Filed → Type 0 = λ v. IsDrained (empty_window windows) v in
+    subst P (sym e) (subst Q (sym g) (record {
+      windows = same;
+      going = refl;
+      due = refl;
+      trimmed = λ _. refl;
+      traffic = nothing_held windows;
+    }))
 
 -- no event yet
 pub new_stands : (s : Settings) (w : Seen Event) (f : Filed) → StandsFor view_of w [] [] → f ≡ nothing_filed s →

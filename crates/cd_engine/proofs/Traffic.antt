@@ -23,9 +23,17 @@ use Rattle.cd_window.specs.declared.held.Held.{Held}
 use Rattle.cd_window.specs.declared.released.Released.{Released}
 use Rattle.cd_window.specs.Pops.{IsTrimmed, IsLeft, in_order, IsPopped}
 use Rattle.cd_window.specs.Pushes.{next_held, with_partner, JoinsAt, StaysAlone, IsPushed}
-use Rattle.cd_window.specs.Seen.{Places, Seen, count_of, held_at, stamped}
+use Rattle.cd_window.specs.Seen.{Places, Seen, empty_window, count_of, held_at, stamped}
 use Rattle.cd_engine.specs.Blocks.{released_parts, HoldsTraffic}
 use Rattle.cd_engine.specs.Records.{single_of_kind, single_record}
+
+-- an empty window holds nothing
+pub nothing_held : (windows : Windows) → HoldsTraffic (empty_window windows)
+nothing_held windows = record {
+  light = λ k h at. absurd (none-some h (sym (get_or_past [] k None (omega arith)) ∙ at));
+  within = λ k j h at p. absurd (none-some h (sym (get_or_past [] k None (omega arith)) ∙ at));
+  opposite = λ k l h o at there p. absurd (none-some h (sym (get_or_past [] k None (omega arith)) ∙ at));
+}
 
 -- what is at a place with one element more: what was there, or the new one at the end
 at_push : {X : Type 0} (xs : List (Option X)) (y : X) (k : ℕ) (h : X) → get_or (xs ++ Some y ∷ []) k None ≡ Some h →
