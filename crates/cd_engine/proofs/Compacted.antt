@@ -12,7 +12,6 @@ use Rattle.cd_drive.specs.declared.driving.Stop.{Stop}
 use Rattle.cd_drive.specs.declared.driving.Stop.TheVariants as stop
 use Rattle.cd_hints.specs.Validity.{IsValid}
 use Rattle.cd_hints.specs.declared.settings.Settings.{Settings}
-use Rattle.cd_ports.specs.Counter.{Rose}
 use Rattle.cd_ports.specs.Reading.{SourceMeaning}
 use Rattle.cd_ports.specs.Writing.{SinkMeaning, AppendsPrefix, OutputStep}
 use Rattle.cd_ports.specs.declared.sink.SinkFault.{SinkFault}
@@ -185,13 +184,6 @@ outranks_driven b max so sn ko kn (Ok driven) h = record {
 }
 outranks_driven b max so sn ko kn (Err fault.Failed) h = record { failed = λ _ _. tt; refused = λ _ _. tt }
 outranks_driven b max so sn ko kn (Err fault.NoMemory) h = record { failed = λ _ _. tt; refused = λ _ _. tt }
-
--- a write fault comes where the count of the sink rose
-pub write_fault_driven : (b : Behavior Refusal Counts) (max : ℕ) (so sn : SourceMeaning) (ko kn : SinkMeaning) (r : Result (Driven Refusal Counts) SinkFault) →
-    Drives b max so sn ko kn r → (answer_of r).0 ≡ ended.WriteFault → Rose ko.faults kn.faults
-write_fault_driven b max so sn ko kn (Ok driven) h e = absurd (no_write_fault driven.stop e)
-write_fault_driven b max so sn ko kn (Err fault.Failed) h e = h.2.output.cause.failed refl
-write_fault_driven b max so sn ko kn (Err fault.NoMemory) h e = absurd cc
 
 -- a capture that can be compacted is accepted
 pub served_accepted : (s : Settings) (bytes : List ℕ) → IsServedCapture s bytes → IsAccepted (compacting s) s.max_input bytes

@@ -44,9 +44,11 @@ IsIndexed it m lane slots = AreByKey (number_of m) (list_at it lane) (has_key it
 abbrev pub IsFilled : {S : Type 0} → Contents Waiter → IndexMap Key ℕ S → ℕ → (Key → Bool) → Type 0
 IsFilled it m lane but = AreFilled (number_of m) (list_at it lane) but
 
+-- no key passes
 abbrev pub no_key : Key → Bool
 no_key k = false
 
+-- keys of these bytes pass
 abbrev pub but_key : Key → Key → Bool
 but_key key k = same_key key k
 
@@ -69,6 +71,7 @@ slots_in x = slots_of (list_at x.store 0 x.all)
 abbrev pub no_waits : Waits
 no_waits = record { primary = []; secondary = None; index = 0; clock = 0; weight_sum = 0; weight = 0 }
 
+-- what waits in a slot, if it is used
 abbrev pub shown : Option Waiter → Waits
 shown None = no_waits
 shown (Some w) = waits_of w

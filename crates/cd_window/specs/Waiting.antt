@@ -49,6 +49,7 @@ waits_of w = record {
   weight = w.weight;
 }
 
+-- whether two events stand on one side, which is that of queries or of responses
 abbrev pub same_side : Side → Side → Bool
 same_side Query Query = true
 same_side Response Response = true
@@ -105,12 +106,13 @@ abbrev pub AreRising : List Waits → Type 0
 AreRising [] = Unit {0}
 AreRising (x ∷ xs) = RisesTo x xs × AreRising xs
 
--- each came before so many events, this clock and this sum
+-- one that waits came before so many events, this clock and this sum
 pub record CameBefore (i clock weight_sum : ℕ) (x : Waits) : Type 0 where
   pub position : x.index < i
   pub time : x.clock ≤ clock
   pub sum : x.weight_sum ≤ weight_sum
 
+-- each of these came before
 abbrev pub AllBefore : ℕ → ℕ → ℕ → List Waits → Type 0
 AllBefore i clock weight_sum [] = Unit {0}
 AllBefore i clock weight_sum (x ∷ xs) = CameBefore i clock weight_sum x × AllBefore i clock weight_sum xs

@@ -81,8 +81,10 @@ fn meet<E: Keyed>(
     event: &E,
     next: Stamp,
 ) -> Result<Option<u64>, AllocError>
-    requires own { CanJoin own.old next.index next.clock (next.weight_sum - (E.view event.now).weight) }
-    requires others { CanJoin others.old next.index next.clock (next.weight_sum - (E.view event.now).weight) }
+    requires own { CanJoin own.old next.index next.clock
+        (next.weight_sum - (E.view event.now).weight) }
+    requires others { CanJoin others.old next.index next.clock
+        (next.weight_sum - (E.view event.now).weight) }
     requires heavy { LEAST_WEIGHT ≤ (E.view event.now).weight }
     requires summed { (E.view event.now).weight ≤ next.weight_sum }
     requires few { next.index < 2 ^ 63 }
@@ -117,8 +119,10 @@ fn join<E: Keyed>(
     event: &E,
     next: Stamp,
 ) -> Result<Option<u64>, AllocError>
-    requires queries { CanJoin queries.old next.index next.clock (next.weight_sum - (E.view event.now).weight) }
-    requires responses { CanJoin responses.old next.index next.clock (next.weight_sum - (E.view event.now).weight) }
+    requires queries { CanJoin queries.old next.index next.clock
+        (next.weight_sum - (E.view event.now).weight) }
+    requires responses { CanJoin responses.old next.index next.clock
+        (next.weight_sum - (E.view event.now).weight) }
     requires heavy { LEAST_WEIGHT ≤ (E.view event.now).weight }
     requires summed { (E.view event.now).weight ≤ next.weight_sum }
     requires few { next.index < 2 ^ 63 }
@@ -128,7 +132,8 @@ fn join<E: Keyed>(
     ensures responses_filled { HasNoEmpty responses.new }
     ensures joins { IfOk result (λ met. Joins windows.now (E.view event.now).side
         (waits_with (E.view event.now) next.index next.clock next.weight_sum) next met
-        (waits_in queries.old) (waits_in responses.old) (waits_in queries.new) (waits_in responses.new)) }
+        (waits_in queries.old) (waits_in responses.old)
+        (waits_in queries.new) (waits_in responses.new)) }
     ensures err_queries { OnErr result (waits_in queries.new ≡ waits_in queries.old) }
     ensures err_responses { OnErr result (waits_in responses.new ≡ waits_in responses.old) }
 {
@@ -171,20 +176,25 @@ pub(crate) fn admit<E: Keyed + Drop>(
     event: E,
     next: Stamp,
 ) -> Result<(), E>
-    requires queries { CanJoin queries.old next.index next.clock (next.weight_sum - (E.view event).weight) }
-    requires responses { CanJoin responses.old next.index next.clock (next.weight_sum - (E.view event).weight) }
+    requires queries { CanJoin queries.old next.index next.clock
+        (next.weight_sum - (E.view event).weight) }
+    requires responses { CanJoin responses.old next.index next.clock
+        (next.weight_sum - (E.view event).weight) }
     requires heavy { LEAST_WEIGHT ≤ (E.view event).weight }
     requires summed { (E.view event).weight ≤ next.weight_sum }
     requires few { next.index < 2 ^ 63 }
-    requires among { (met : Option ℕ) (qs rs : List Waits) → Joins windows.now (E.view event).side
+    requires among { (met : Option ℕ) (qs rs : List Waits) →
+        Joins windows.now (E.view event).side
         (waits_with (E.view event) next.index next.clock next.weight_sum) next met
         (waits_in queries.old) (waits_in responses.old) qs rs → IsAmong first places.old.items met }
     ensures queries_listed { IsListed queries.new }
     ensures queries_filled { HasNoEmpty queries.new }
     ensures responses_listed { IsListed responses.new }
     ensures responses_filled { HasNoEmpty responses.new }
-    ensures admitted { OnOk result (Admits E.view windows.now first event next places.old.items places.new.items
-        (waits_in queries.old) (waits_in responses.old) (waits_in queries.new) (waits_in responses.new)) }
+    ensures admitted { OnOk result (Admits E.view windows.now first event next
+        places.old.items places.new.items
+        (waits_in queries.old) (waits_in responses.old)
+        (waits_in queries.new) (waits_in responses.new)) }
     ensures handed_back { IfErr result (λ e. e ≡ event) }
     ensures unchanged { OnErr result (places.new.items ≡ places.old.items) }
     ensures err_queries { OnErr result (waits_in queries.new ≡ waits_in queries.old) }

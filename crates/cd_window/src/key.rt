@@ -12,7 +12,8 @@ pub(crate) struct Key {
 }
 
 fn copy_of(alloc: Global, bytes: Option<&[u8]>) -> Result<Option<Vec<u8>>, AllocError>
-    ensures { IfOk result (λ copy. option_map (λ v. v.items) copy ≡ option_map (λ b. b.now) bytes.entry) }
+    ensures { IfOk result (λ copy.
+        option_map (λ v. v.items) copy ≡ option_map (λ b. b.now) bytes.entry) }
 {
     match bytes {
         None => Ok(None),
@@ -30,7 +31,8 @@ pub(crate) fn key_of(
     secondary: Option<&[u8]>,
 ) -> Result<Key, AllocError>
     ensures primary { IfOk result (λ k. k.primary.items ≡ primary.now) }
-    ensures secondary { IfOk result (λ k. secondary_of k ≡ option_map (λ b. b.now) secondary.entry) }
+    ensures secondary { IfOk result (λ k.
+        secondary_of k ≡ option_map (λ b. b.now) secondary.entry) }
 {
     let primary = Vec::from_slice(alloc, primary)?;
     let secondary = copy_of(alloc, secondary)?;

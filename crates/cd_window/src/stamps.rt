@@ -30,7 +30,8 @@ fn timeout(windows: &Windows, side: Side) -> u64
 // After `now.index` events: whether one more of the least weight could stand with one of this side and weight that came
 // with this stamp.
 fn waits_after(windows: &Windows, now: Stamp, side: Side, then: Stamp, weight: u64) -> bool
-    ensures { result ≡ waits_after windows.now now.index now.clock now.weight_sum (weighed side then weight) }
+    ensures { result ≡
+        waits_after windows.now now.index now.clock now.weight_sum (weighed side then weight) }
 {
     let passed = now.weight_sum.saturating_sub(then.weight_sum);
     now.index.saturating_sub(then.index) < windows.count

@@ -103,7 +103,8 @@ impl Waiting {
         requires before { AllBefore now.index now.clock now.weight_sum (waits_in self.old) }
         ensures listed { IsListed self.new }
         ensures filled { HasNoEmpty self.new }
-        ensures closed { waits_in self.new ≡ filter (waits_still windows.now side now) (waits_in self.old) }
+        ensures closed { waits_in self.new ≡
+            filter (waits_still windows.now side now) (waits_in self.old) }
     {
         'closing: while let Some(slot) = self.closed_front(windows, side, now) {
             self.discard(slot);
