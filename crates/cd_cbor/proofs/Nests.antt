@@ -1,7 +1,6 @@
 -- What is open, the innermost last.
 use Rattle.std.proofs.Common.{◌≡◌, ℕ, ◌+◌, ◌-◌, ◌<◌, ◌≤◌, List, [], ◌∷◌, ◌++◌, length, drop, reverse, Option, Some, None, true, refl, ap, sym, ◌∙◌, arith}
 use Rattle.std.specs.Prelude.{◌↔◌, IsSome, option_to_list}
-use Rattle.std.specs.Option.{is_some}
 use Rattle.std.proofs.lemmas.List.{reverse-append}
 use Rattle.cd_cbor.specs.Events.{passed, acted, after_one, innermost}
 use Rattle.cd_cbor.specs.declared.wanted.Wanted.{Wanted}
@@ -23,7 +22,7 @@ pub closed_drop : (xs rest : List Wanted) (r : Option Wanted) → xs ≡ rest ++
 closed_drop xs rest (Some top) is some = sym (ap (drop 1) (last_first xs rest top is))
 closed_drop xs [] None is some = let none : xs ≡ [] = is in rw none refl
 closed_drop xs (y ∷ ys) None is some =
-    let long : length xs ≡ length (y ∷ (ys ++ [])) = ap length is in let found : is_some {A = Wanted} None ≡ true = some.1 (omega arith) in absurd cc
+    let long : length xs ≡ length (y ∷ (ys ++ [])) = ap length is in let found = some.1 (omega arith) in absurd cc
 
 -- it is whole
 pub passed_whole : (xs rest : List Wanted) (top : Wanted) → xs ≡ rest ++ top ∷ [] → after_one top ≡ None → passed (reverse rest) ≡ passed (reverse xs)

@@ -18,6 +18,14 @@ use std::mem;
 // As many read bytes may stay in memory.
 const MOST_READ: usize = 65_536;
 
+// The bytes from a place on.
+fn rest(bytes: &Vec<u8>, start: usize) -> &[u8]
+    requires { start ≤ length bytes.now.items }
+    ensures { result.now ≡ drop start bytes.now.items }
+{
+    &bytes.as_slice()[start..]
+}
+
 // A chunk of a string with this content before, or the break that ends it.
 #[tactic(auto, unfolding(crate::specs::Events::chunk_front))]
 fn chunk_front(
@@ -91,11 +99,11 @@ impl Model for Reader {
       counted : r.at + (length r.bytes.items - r.start) ≤ r.fed_count;
       few : r.fed_count ≤ 2 ^ 48;
       short : length r.content.items ≤ most_string;
-      fits : length r.nest ≤ 16;
     } };
 }
 
 impl Reader {
+    ghost use Rattle.std.specs.Prelude.{Some, None, option_map};
     ghost use Rattle.cd_cbor.specs.declared.event.Event.{Event};
     ghost use Rattle.cd_cbor.specs.Following.{StandsFor, Steps, Nexts};
 
@@ -144,45 +152,66 @@ impl Reader {
         Ok(())
     }
 
+    // A head at the front of the bytes held, and the event that it is.
+    fn step_head(&mut self) -> Result<Option<Event>, CborFault>
+        requires { self.old.open_now.chunks ≡ None }
+        ensures { Steps self.old self.new result }
+    {
+        let room = self.nest.room();
+        let top = self.nest.innermost();
+        let held = rest(&self.bytes, self.start);
+        let (told, size) = match head_front(self.alloc, room, top, held) {
+            Ok(found) => found,
+            Err(fault) => return Err(fault),
+        };
+        match told {
+            Told::Event(event, done) => {
+                self.nest.act(done);
+                self.start += size;
+                self.at += size as u64;
+                self.position = self.at;
+                Ok(Some(event))
+            }
+            Told::Chunks(is_text) => {
+                self.chunks = Some(is_text);
+                self.content.clear();
+                self.start += size;
+                self.at += size as u64;
+                Ok(None)
+            }
+        }
+    }
+
+    // A chunk at the front of the bytes held, or the break after the last one, with the event of their string.
+    fn step_chunk(&mut self, is_text: bool) -> Result<Option<Event>, CborFault>
+        requires { option_map (λ string. string.0) self.old.open_now.chunks ≡ Some is_text }
+        ensures { Steps self.old self.new result }
+    {
+        let held = rest(&self.bytes, self.start);
+        let (found, size) = match chunk_front(self.alloc, is_text, &mut self.content, held) {
+            Ok(found) => found,
+            Err(fault) => return Err(fault),
+        };
+        self.start += size;
+        self.at += size as u64;
+        match found {
+            None => Ok(None),
+            Some(event) => {
+                self.chunks = None;
+                self.nest.pass();
+                self.position = self.at;
+                Ok(Some(event))
+            }
+        }
+    }
+
     // A head or a chunk at the front of the bytes held, and the event that it ends.
     fn step(&mut self) -> Result<Option<Event>, CborFault>
         ensures { Steps self.old self.new result }
     {
-        let held = &self.bytes[self.start..];
         match self.chunks {
-            None => match head_front(self.alloc, self.nest.room(), self.nest.innermost(), held) {
-                Err(fault) => Err(fault),
-                Ok((Told::Event(event, done), size)) => {
-                    self.nest.act(done);
-                    self.start += size;
-                    self.at += size as u64;
-                    self.position = self.at;
-                    Ok(Some(event))
-                }
-                Ok((Told::Chunks(is_text), size)) => {
-                    self.chunks = Some(is_text);
-                    self.content.clear();
-                    self.start += size;
-                    self.at += size as u64;
-                    Ok(None)
-                }
-            },
-            Some(is_text) => match chunk_front(self.alloc, is_text, &mut self.content, held) {
-                Err(fault) => Err(fault),
-                Ok((None, size)) => {
-                    self.start += size;
-                    self.at += size as u64;
-                    Ok(None)
-                }
-                Ok((Some(event), size)) => {
-                    self.chunks = None;
-                    self.nest.pass();
-                    self.start += size;
-                    self.at += size as u64;
-                    self.position = self.at;
-                    Ok(Some(event))
-                }
-            },
+            None => self.step_head(),
+            Some(is_text) => self.step_chunk(is_text),
         }
     }
 
