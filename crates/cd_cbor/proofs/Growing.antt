@@ -37,7 +37,7 @@ goes_refused {A} bytes at reason apart = record {
 }
 
 -- faults of readings of two kinds are equal alike
-fault_same : {A B : Type 0} (e f : CborFault) → ◌≡◌ {A = Result A CborFault} (Err e) (Err f) → ◌≡◌ {A = Result B CborFault} (Err e) (Err f)
+pub fault_same : {A B : Type 0} (e f : CborFault) → ◌≡◌ {A = Result A CborFault} (Err e) (Err f) → ◌≡◌ {A = Result B CborFault} (Err e) (Err f)
 fault_same {A} {B} e f h = let same : e ≡ f = cc in ap {B = Result B CborFault} (λ x. Err x) same
 
 -- one reading and then another
