@@ -17,6 +17,9 @@
 //! the bytes (`specs/Reading`), which the laws of `laws` tie to spellings: what is spelled is read, what is read is
 //! spelled, no spelling goes on as another, and some bytes spell at most one item.
 //!
+//! `Reader` reads items whose bytes come in pieces, and gives an event for each head (`Event`). For each history of
+//! pieces its answer is the same function of all bytes fed (`specs/Events`, `specs/Following`).
+//!
 //! The map of the key 0 with the number 500, and of the key 1 with the text "DNS", has the spelling
 //! `a2 00 19 01 f4 01 63 44 4e 53`:
 //!
@@ -30,6 +33,8 @@
 #![tactic(auto)]
 
 mod encoding;
+mod event;
+mod event_reading;
 mod fault;
 mod head;
 mod head_reading;
@@ -38,15 +43,21 @@ mod item;
 mod item_reading;
 pub mod laws;
 mod major_type;
+mod nest;
+mod reader;
 mod string_reading;
 mod values;
+mod wanted;
 
 pub use encoding::encode;
+pub use event::{Act, Event, Step, Told};
 pub use fault::{CborFault, Why};
 pub use head::{push_array_head, push_head, push_map_head};
 pub use integer::Integer;
 pub use item::Item;
 pub use item_reading::{MOST_DEPTH, decode_one};
 pub use major_type::MajorType;
+pub use reader::Reader;
 pub use string_reading::MOST_STRING;
 pub use values::{push_bytes, push_integer, push_negative, push_text, push_unsigned};
+pub use wanted::Wanted;
