@@ -219,7 +219,7 @@ counts_known s bytes given p r n cut compacted small packets records runs short 
     let p_is : p ≡ packet_counts rules (compacted_packets rules bytes) =
     packets ∙ packets_fit rules given (omega (arith, few_packets given, small)) ∙ ap (packet_counts rules) (sym compacted) in
     let exact : held_record_counts (record_counts s.params.rr_types (all_records s (events_of rules given)))
-        ≡ record_counts s.params.rr_types (all_records s (events_of rules given)) =
+    ≡ record_counts s.params.rr_types (all_records s (events_of rules given)) =
     λ i. record { items = k.items_fit i; pairs = k.pairs_fit i; dropped = k.dropped_fit i } in
     let r_is : r ≡ record_counts s.params.rr_types (all_records s (events_of rules (compacted_packets rules bytes))) =
     records ∙ exact ∙ ap (λ ps. record_counts s.params.rr_types (all_records s (events_of rules ps))) (sym compacted) in

@@ -56,9 +56,11 @@ kind_more rules ps p kind is none = by_kind kind is
   where
     all : held_in_64 (held_in_64 (length ps) + 1) ≡ held_in_64 (length (ps ++ p ∷ []))
     all = omega (arith, length-append ps (p ∷ []))
+
     skips : map held_in_64 (map (λ k. count_by (is_skipped_for rules k) ps) (range_with_len 0 9))
         ≡ map held_in_64 (map (λ k. count_by (is_skipped_for rules k) (ps ++ p ∷ [])) (range_with_len 0 9))
     skips = λ i. map held_in_64 (map (λ k. same_count (is_skipped_for rules k) ps p (none k) i) (range_with_len 0 9))
+
     by_kind : (k : Kind) → ((n : ℕ) → is_of_kind rules n p ≡ nat_eq (kind_index k) n) →
         packet_counts_with (held_packet_counts (packet_counts rules ps)) k ≡ held_packet_counts (packet_counts rules (ps ++ p ∷ []))
     by_kind Query told = λ i. record {

@@ -98,6 +98,7 @@ taken_end rules c fed cleared given end h reads packets is few =
     end_compacted Whole k = packets
     end_compacted Cut k = packets
     end_compacted (Bad b) k = packets_before fed b (sym k) ∙ packets
+
     end_no_place : (e : EndState) (at : ℕ) → refusal_of_end e ≡ Some (NotYet at) → at ≤ length fed
     end_no_place Whole at k = absurd cc
     end_no_place Cut at k = absurd cc
@@ -228,6 +229,7 @@ taken_stands rules c bytes cleared refused same starts four read h =
   where
     now : EventRules
     now = rules_of c.blocks.filing.settings
+
     stands : HasTaken now c bytes cleared refused → CompactorStands (record c { refused = refused }) bytes cleared
     stands t =
         let many : 4 ≤ length bytes = first_many c.first bytes starts four in
