@@ -1,5 +1,5 @@
 -- The settings of a command line of `compact` are valid.
-use Rattle.std.proofs.Common.{◌≡◌, ℕ, ◌+◌, ◌*◌, ◌<◌, suc, zero, List, [], ◌∷◌, length, drop, Option, Some, None, IsSomeAnd, unwrap_or, refl, subst, arith}
+use Rattle.std.proofs.Common.{◌≡◌, ℕ, ◌+◌, ◌*◌, ◌<◌, suc, List, [], ◌∷◌, length, Option, Some, None, IsSomeAnd, unwrap_or, refl, subst, arith}
 use Rattle.std.specs.Option.{option_map_or}
 use Rattle.cd_hints.specs.declared.settings.Settings.{Settings}
 use Rattle.cd_hints.specs.Options.{Admits, list_range}
@@ -10,7 +10,7 @@ use Rattle.cd_words.specs.declared.compact_option.CompactOption.TheVariants.{Num
 use Rattle.cd_words.specs.Numbers.{number_of}
 use Rattle.cd_words.specs.Parts.{parts_of}
 use Rattle.cd_words.specs.Options.{option_named, Says}
-use Rattle.cd_words.specs.CommandLines.{word_at, IsCommandLine, SaysValue, settings_from, settings_of}
+use Rattle.cd_words.specs.CommandLines.{word_at, SaysValue, settings_from, settings_of}
 use Rattle.cd_words.specs.Compact.{compact, with_value}
 use Rattle.cd_words.specs.Laws.{CommandLinesHaveValidSettings}
 use Rattle.cd_words.proofs.ValidParts.{valid_parts}

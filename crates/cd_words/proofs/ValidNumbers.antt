@@ -1,5 +1,5 @@
 -- Settings stay valid where an option has a number that it admits.
-use Rattle.std.proofs.Common.{◌≡◌, ◌≢◌, ℕ, suc, zero, Bool, true, false, List, [], ◌∷◌, Option, Some, None, IfSome, nat_eq, cond, lit≤, inl, refl, ap, arith}
+use Rattle.std.proofs.Common.{◌≢◌, ℕ, suc, zero, Bool, true, false, List, [], ◌∷◌, Option, Some, None, IfSome, nat_eq, cond, lit≤, inl, refl, ap, arith}
 use Rattle.std.specs.Prelude.{slice_index_or, slice_set}
 use Rattle.cd_block.specs.declared.hints.Hints.{Hints}
 use Rattle.cd_block.specs.declared.params.Params.{Params}
@@ -14,13 +14,13 @@ use Rattle.cd_hints.proofs.Listed.{listed_below_ascends}
 
 -- ---- the prefixes
 
--- what is put at an index is what a test holds of, where it holds of what is put and of what was there
+-- a fact of the number that is put at an index, and of the one that was there, holds of the one that is there then
 set_here : (P : ℕ → Type 0) (xs : List (Option ℕ)) (i : ℕ) (x : Option ℕ) → IfSome x P → IfSome (slice_index_or xs i None) P → IfSome (slice_index_or (slice_set xs i x) i None) P
 set_here P [] i x new old = old
 set_here P (y ∷ xs) zero x new old = new
 set_here P (y ∷ xs) (suc i) x new old = set_here P xs i x new old
 
--- the other places keep what they have
+-- a fact of the number at another index holds on
 set_apart : (P : ℕ → Type 0) (xs : List (Option ℕ)) (i j : ℕ) (x : Option ℕ) → i ≢ j → IfSome (slice_index_or xs j None) P → IfSome (slice_index_or (slice_set xs i x) j None) P
 set_apart P [] i j x apart old = old
 set_apart P (y ∷ xs) zero zero x apart old = absurd (apart refl)
