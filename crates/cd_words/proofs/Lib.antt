@@ -10,3 +10,5 @@ mod Decimal
 mod LineOrBreak
 mod SaysOrNot
 mod OptionValues
+mod ValidNumbers
+mod ValidLines

@@ -1,10 +1,12 @@
 -- Laws of the command line.
 use Rattle.std.specs.Prelude.{◌≡◌, ◌↔◌, ℕ, ◌^◌, ◌<◌, ◌⊎◌, List, Some}
 use Rattle.std.specs.Fmt.{decimal}
+use Rattle.cd_hints.specs.Validity.{IsValid}
 use Rattle.cd_words.specs.declared.compact_option.CompactOption.{CompactOption}
 use Rattle.cd_words.specs.Numbers.{number_of}
 use Rattle.cd_words.specs.Options.{word_of, option_named, Says}
-use Rattle.cd_words.specs.CommandLines.{Language, IsCommandLine, BreaksAt}
+use Rattle.cd_words.specs.CommandLines.{Language, IsCommandLine, BreaksAt, settings_of}
+use Rattle.cd_words.specs.Compact.{compact}
 
 -- bytes are a number exactly where they are what std writes of it
 abbrev pub NumbersAreDecimal : Type 0
@@ -29,3 +31,8 @@ abbrev pub LinesOrBreaks : {C S : Type 0} → Language C S → Type 0
 LinesOrBreaks language = (words : List (List ℕ)) →
     (IsCommandLine language words × ((place : ℕ) → ¬ (BreaksAt language words place)))
     ⊎ ((place : ℕ) × BreaksOnce language words place)
+
+-- the settings of a command line are valid
+abbrev pub CommandLinesHaveValidSettings : Type 0
+CommandLinesHaveValidSettings =
+    (words : List (List ℕ)) → IsCommandLine compact words → IsValid (settings_of compact words)

@@ -1,6 +1,7 @@
 //! Laws of the language: contracts of functions that do nothing.
 
 ghost use Rattle.cd_words.specs.Laws.{NumbersAreDecimal, OptionsHaveNames, OptionsHaveValues, LinesOrBreaks};
+ghost use Rattle.cd_words.specs.Laws.{CommandLinesHaveValidSettings};
 ghost use Rattle.cd_words.specs.Compact.{compact};
 
 /// A law: bytes are a number exactly where they are what std writes of it. It does nothing.
@@ -21,4 +22,9 @@ pub fn options_have_values()
 /// A law: words are a command line of `compact`, or break a rule of it at exactly one place. It does nothing.
 pub fn words_are_a_line_or_break_a_rule()
     ensures { LinesOrBreaks compact }
+{}
+
+/// The settings of a command line are valid.
+pub fn command_lines_have_valid_settings()
+    ensures { CommandLinesHaveValidSettings }
 {}
