@@ -27,21 +27,21 @@ pub record Goes {A : Type 0} (bytes : List ℕ) (now later : Result A CborFault)
   pub ends : (at : ℕ) → now ≡ refused at why.End → at ≡ length bytes
 
 -- a value, and a fault that is no end
-goes_ok : {A : Type 0} (bytes : List ℕ) (x y : A) → y ≡ x → Goes bytes (Ok x) (Ok y)
+pub goes_ok : {A : Type 0} (bytes : List ℕ) (x y : A) → y ≡ x → Goes bytes (Ok x) (Ok y)
 goes_ok {A} bytes x y e = record { stays = λ never. ap Ok e; ends = λ at h. absurd cc }
 
-goes_refused : {A : Type 0} (bytes : List ℕ) (at : ℕ) (reason : Why) → (reason ≡ why.End → ⊥) → Goes {A = A} bytes (refused at reason) (refused at reason)
+pub goes_refused : {A : Type 0} (bytes : List ℕ) (at : ℕ) (reason : Why) → (reason ≡ why.End → ⊥) → Goes {A = A} bytes (refused at reason) (refused at reason)
 goes_refused {A} bytes at reason apart = record {
   stays = λ never. refl;
   ends = λ k h. let same : reason ≡ why.End = cc in absurd (apart same);
 }
 
 -- faults of readings of two kinds are equal alike
-fault_same : {A B : Type 0} (e f : CborFault) → ◌≡◌ {A = Result A CborFault} (Err e) (Err f) → ◌≡◌ {A = Result B CborFault} (Err e) (Err f)
+pub fault_same : {A B : Type 0} (e f : CborFault) → ◌≡◌ {A = Result A CborFault} (Err e) (Err f) → ◌≡◌ {A = Result B CborFault} (Err e) (Err f)
 fault_same {A} {B} e f h = let same : e ≡ f = cc in ap {B = Result B CborFault} (λ x. Err x) same
 
 -- one reading and then another
-goes_bind : {A B : Type 0} (bytes : List ℕ) (now later : Result A CborFault) (f g : A → Result B CborFault) → Goes bytes now later →
+pub goes_bind : {A B : Type 0} (bytes : List ℕ) (now later : Result A CborFault) (f g : A → Result B CborFault) → Goes bytes now later →
     ((x : A) → now ≡ Ok x → Goes bytes (f x) (g x)) → Goes bytes (now >>= f) (later >>= g)
 goes_bind {A} {B} bytes (Ok x) later f g first second =
     let same : later ≡ Ok x = first.stays (λ at h. absurd cc) in
@@ -53,7 +53,7 @@ goes_bind {A} {B} bytes (Err e) later f g first second = record {
 }
 
 -- a choice by the same test
-goes_if : {A : Type 0} (bytes : List ℕ) (b : Bool) (x y other rest : Result A CborFault) → Goes bytes x y → Goes bytes other rest → Goes bytes (cond b x other) (cond b y rest)
+pub goes_if : {A : Type 0} (bytes : List ℕ) (b : Bool) (x y other rest : Result A CborFault) → Goes bytes x y → Goes bytes other rest → Goes bytes (cond b x other) (cond b y rest)
 goes_if bytes true x y other rest first second = first
 goes_if bytes false x y other rest first second = second
 
@@ -74,7 +74,7 @@ piece_stays : (bytes more : List ℕ) (at size : ℕ) → at + size ≤ length b
 piece_stays bytes more at size h =
     ap (λ t. take size t) (drop-append-le at bytes more (omega arith)) ∙ take-append-le size (drop at bytes) more (omega (arith, length-drop at bytes))
 
-byte_goes : (bytes more : List ℕ) (at : ℕ) → Goes bytes (byte_at at bytes) (byte_at at (bytes ++ more))
+pub byte_goes : (bytes more : List ℕ) (at : ℕ) → Goes bytes (byte_at at bytes) (byte_at at (bytes ++ more))
 unfolding byte_at
 byte_goes bytes more at =
     elim (cases_lt at (length bytes)) [
@@ -83,7 +83,7 @@ byte_goes bytes more at =
       | inr past ↦ rw (le-ltb at (length bytes) past) (record { stays = λ never. absurd (never (length bytes) refl); ends = λ k h. cc })
     ]
 
-argument_goes : (bytes more : List ℕ) (info at : ℕ) → Goes bytes (argument_at info at bytes) (argument_at info at (bytes ++ more))
+pub argument_goes : (bytes more : List ℕ) (info at : ℕ) → Goes bytes (argument_at info at bytes) (argument_at info at (bytes ++ more))
 unfolding argument_at
 argument_goes bytes more info at =
     let size : ℕ = argument_size info in
@@ -106,13 +106,13 @@ content_goes bytes more is_text head size at =
     (λ enough. rw (piece_stays bytes more at size enough)
     (goes_if bytes (is_content is_text (piece at size bytes)) _ _ _ _ (goes_ok bytes _ _ refl) (goes_refused bytes head why.Utf8 (λ e. cc))))
 
-string_goes : (bytes more : List ℕ) (is_text : Bool) (before info at : ℕ) → Goes bytes (string_at is_text before info at bytes) (string_at is_text before info at (bytes ++ more))
+pub string_goes : (bytes more : List ℕ) (is_text : Bool) (before info at : ℕ) → Goes bytes (string_at is_text before info at bytes) (string_at is_text before info at (bytes ++ more))
 unfolding string_at
 string_goes bytes more is_text before info at =
     goes_bind bytes _ _ _ _ (argument_goes bytes more info at)
     (λ size e. goes_if bytes (nat_lt most_string (before + size.0)) _ _ _ _ (goes_refused bytes at why.Length (λ e. cc)) (content_goes bytes more is_text at size.0 size.1))
 
-chunk_goes : (bytes more : List ℕ) (is_text : Bool) (place : ℕ × ℕ) → Goes bytes (chunk_at is_text bytes place) (chunk_at is_text (bytes ++ more) place)
+pub chunk_goes : (bytes more : List ℕ) (is_text : Bool) (place : ℕ × ℕ) → Goes bytes (chunk_at is_text bytes place) (chunk_at is_text (bytes ++ more) place)
 unfolding chunk_at
 chunk_goes bytes more is_text place =
     goes_bind bytes _ _ _ _ (byte_goes bytes more place.1)

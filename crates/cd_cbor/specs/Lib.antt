@@ -6,4 +6,6 @@ pub mod Heads
 pub mod Spells
 pub mod Readings
 pub mod Reading
+pub mod Events
+pub mod Following
 pub mod Laws

@@ -76,7 +76,8 @@ fn argument_size(info: u8) -> usize
 #[tactic(auto, unfolding(crate::specs::Heads::argument_size, crate::specs::Heads::argument_of))]
 fn argument_of(info: u8, after: &[u8]) -> u64
     requires { heads.argument_size info ≤ length after.now }
-    ensures { result ≡ heads.argument_of info after.now }
+    ensures value { result ≡ heads.argument_of info after.now }
+    ensures small { info < 25 → result < 256 }
 {
     if info < 24 {
         info as u64
@@ -99,6 +100,7 @@ pub(crate) fn argument_at(bytes: &[u8], info: u8, at: usize) -> Result<(u64, usi
     requires { at < length bytes.now }
     ensures read { Gives (λ x. (x.0, x.1)) result (reading.argument_at info at bytes.now) }
     ensures within { IfOk result (λ x. (at < x.1) × (x.1 ≤ length bytes.now)) }
+    ensures small { IfOk result (λ x. info < 25 → x.0 < 256) }
 {
     let size = argument_size(info);
     let start = at + 1;

@@ -18,7 +18,7 @@ use std::alloc::Global;
 pub const MOST_DEPTH: usize = 16;
 
 // A copy of some bytes.
-fn copied(alloc: Global, bytes: &[u8]) -> Result<Blob, CborFault>
+pub(crate) fn copied(alloc: Global, bytes: &[u8]) -> Result<Blob, CborFault>
     ensures { Gives (λ blob. blob) result (Ok bytes.now) }
 {
     match Blob::from_slice(alloc, bytes) {

@@ -30,6 +30,8 @@
 #![tactic(auto)]
 
 mod encoding;
+mod event;
+mod event_reading;
 mod fault;
 mod head;
 mod head_reading;
@@ -38,15 +40,21 @@ mod item;
 mod item_reading;
 pub mod laws;
 mod major_type;
+mod nest;
+mod reader;
 mod string_reading;
 mod values;
+mod wanted;
 
 pub use encoding::encode;
+pub use event::{Act, Event, Step, Told};
 pub use fault::{CborFault, Why};
 pub use head::{push_array_head, push_head, push_map_head};
 pub use integer::Integer;
 pub use item::Item;
 pub use item_reading::{MOST_DEPTH, decode_one};
 pub use major_type::MajorType;
+pub use reader::Reader;
 pub use string_reading::MOST_STRING;
 pub use values::{push_bytes, push_integer, push_negative, push_text, push_unsigned};
+pub use wanted::Wanted;

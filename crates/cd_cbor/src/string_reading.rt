@@ -93,7 +93,7 @@ fn is_chunk(is_text: bool, first: u8) -> bool
 
 // A chunk of a string in which so many bytes of chunks were there before, and the offset after it.
 #[tactic(auto, unfolding(crate::specs::Reading::chunk_at))]
-fn chunk_at(
+pub(crate) fn chunk_at(
     bytes: &[u8],
     is_text: bool,
     before: u64,
