@@ -112,20 +112,28 @@ fn push_event(out: &mut Out, event: &Event) -> Result<(), AllocError> {
     }
 }
 
+// The same where there is an event.
+fn push_step(out: &mut Out, step: &Step) -> Result<(), CborFault> {
+    match step {
+        Step::More => Ok(()),
+        Step::Event(event) => match push_event(out, event) {
+            Ok(()) => Ok(()),
+            Err(_refused) => Err(CborFault::NoMemory),
+        },
+    }
+}
+
 // Feeds bytes one by one, and writes the event that each of them ends.
 fn push_events(reader: &mut Reader, bytes: &[u8], out: &mut Out) -> Result<(), CborFault>
     requires { reader.old.fed_count + length bytes.now ≤ 2 ^ 48 }
 {
     'bytes: for byte in bytes {
-        if reader.feed(&[*byte]).is_err() {
-            return Err(CborFault::NoMemory);
+        match reader.feed(&[*byte]) {
+            Ok(()) => {}
+            Err(_refused) => return Err(CborFault::NoMemory),
         }
         let step = reader.next()?;
-        if let Step::Event(event) = step {
-            if push_event(out, &event).is_err() {
-                return Err(CborFault::NoMemory);
-            }
-        }
+        push_step(out, &step)?;
     }
     Ok(())
 }

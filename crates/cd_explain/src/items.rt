@@ -61,6 +61,11 @@ fn put_text(text: &mut String, bytes: &[u8]) -> Result<(), AllocError> {
     text.push('"')
 }
 
+// What stands before an item in a row: nothing before the first.
+fn put_comma(text: &mut String, first: bool) -> Result<(), AllocError> {
+    if first { Ok(()) } else { text.push_str(", ") }
+}
+
 // An item in diagnostic notation (RFC 8949 8), on one line. A tagged value, a simple value or a float is shown by its
 // bytes.
 fn put_item(text: &mut String, item: &Item) -> Result<(), AllocError> {
@@ -72,24 +77,24 @@ fn put_item(text: &mut String, item: &Item) -> Result<(), AllocError> {
         Item::Array(items) => {
             let items = items.as_slice();
             text.push('[')?;
-            let mut between = "";
+            let mut first = true;
             'items: for inner in items {
-                text.push_str(between)?;
+                put_comma(text, first)?;
                 put_item(text, inner)?;
-                between = ", ";
+                first = false;
             }
             text.push(']')
         }
         Item::Map(pairs) => {
             let pairs = pairs.as_slice();
             text.push('{')?;
-            let mut between = "";
+            let mut first = true;
             'pairs: for pair in pairs {
-                text.push_str(between)?;
+                put_comma(text, first)?;
                 put_item(text, &pair.0)?;
                 text.push_str(": ")?;
                 put_item(text, &pair.1)?;
-                between = ", ";
+                first = false;
             }
             text.push('}')
         }
@@ -181,8 +186,8 @@ impl Feeder {
     }
 }
 
-// A line for each event that is there, and one for what comes after them: that bytes are wanted, or a fault, where it is
-// false.
+// A line for each event that is there, and one for what comes after them: that bytes are wanted, or a fault. False at a
+// fault.
 fn put_events(text: &mut String, feeder: &mut Feeder) -> Result<bool, AllocError> {
     for _ in 0..u64::MAX {
         match feeder.next() {
@@ -220,8 +225,8 @@ fn explain_chunks(
     writeln!(text, "position {}", feeder.reader.position())
 }
 
-/// What some bytes are in CBOR: the item at their front, or, where they are fed in chunks of so many bytes, the events of
-/// all of them.
+/// What some bytes are in CBOR: the item at their front; or, where they are fed in chunks of so many bytes and not at
+/// once with 0, the events of all of them.
 pub fn explain_cbor(
     alloc: Global,
     text: &mut String,
