@@ -88,9 +88,13 @@ fn an_item_is_read(rt: HostRuntime) {
         }
         Err(_) => assert!(rt; false),
     }
+    let odd = CborFault::Bad {
+        at: 2,
+        why: Why::Odd,
+    };
     match decode_one(rt.alloc(), b"\xbf\x00\xff".as_slice()) {
         Ok(_) => assert!(rt; false),
-        Err(fault) => assert!(rt; fault == CborFault::Bad { at: 2, why: Why::Odd }),
+        Err(fault) => assert!(rt; fault == odd),
     }
 }
 
@@ -138,16 +142,22 @@ fn push_events(reader: &mut Reader, bytes: &[u8], out: &mut Out) -> Result<(), C
     Ok(())
 }
 
-// 256 and a map: a tag, chunks of a string, a float, a pair of an array.
+// 256, and {1(h'6162'): 0.0, -8: ["c", null]} with chunks and a break.
 #[test]
 fn events_come_byte_by_byte(rt: HostRuntime) {
-    let spelled = b"\x19\x01\x00\xbf\xc1\x5f\x41a\x41b\xff\xf9\x00\x00\x27\x82\x61c\xf6\xff".as_slice();
+    let spelled =
+        b"\x19\x01\x00\xbf\xc1\x5f\x41a\x41b\xff\xf9\x00\x00\x27\x82\x61c\xf6\xff".as_slice();
     let mut reader = Reader::new(rt.alloc());
     let mut out = Out::new(rt.alloc());
     let fed = push_events(&mut reader, spelled, &mut out);
     assert!(rt; fed.is_ok());
     assert!(rt; out.bytes() == b"\x19\x01\x00\xbf\xc1\x42abfloat\x27\x82\x61c\xf6\xff".as_slice());
     assert!(rt; reader.position() == 20);
-    let fed = push_events(&mut Reader::new(rt.alloc()), b"\x82\x01\xff".as_slice(), &mut out);
-    assert!(rt; fed == Err(CborFault::Bad { at: 2, why: Why::Break }));
+    let misplaced = CborFault::Bad {
+        at: 2,
+        why: Why::Break,
+    };
+    let mut other = Reader::new(rt.alloc());
+    let fed = push_events(&mut other, b"\x82\x01\xff".as_slice(), &mut out);
+    assert!(rt; fed == Err(misplaced));
 }
