@@ -1,5 +1,10 @@
+ghost use Rattle.std.specs.Prelude.{◌+◌, ◌≤◌, ◌^◌, length};
+
 use cd_bytes::Out;
-use cd_cbor::{Item, MajorType, encode, push_head};
+use cd_cbor::{
+    CborFault, Event, Item, MajorType, Reader, Step, Why, decode_one, encode, push_array_head,
+    push_bytes, push_head, push_map_head, push_negative, push_text, push_unsigned,
+};
 use cd_name::{Blob, List};
 use std::alloc::{AllocError, Global};
 
@@ -60,4 +65,99 @@ fn an_item_is_spelled(rt: HostRuntime) -> Result<(), AllocError> {
     encode(&Item::Map(List::from_vec(pairs)), &mut out)?;
     assert!(rt; out.bytes() == b"\xa1\x01\x84\x42ab\x65C-DNS\x27\xf6".as_slice());
     Ok(())
+}
+
+// The item at the front of some bytes as it is written, and its length.
+fn written_again(alloc: Global, bytes: &[u8]) -> Result<(Out, usize), CborFault> {
+    let (item, length) = decode_one(alloc, bytes)?;
+    let mut out = Out::new(alloc);
+    match encode(&item, &mut out) {
+        Ok(()) => Ok((out, length)),
+        Err(_refused) => Err(CborFault::NoMemory),
+    }
+}
+
+// {1: [h'6162', "C-DNS", -8, null]}, with a long head, chunks and breaks, and a byte after it.
+#[test]
+fn an_item_is_read(rt: HostRuntime) {
+    let spelled = b"\xbf\x18\x01\x9f\x5f\x41a\x41b\xff\x65C-DNS\x27\xf6\xff\xff\x00".as_slice();
+    match written_again(rt.alloc(), spelled) {
+        Ok((out, length)) => {
+            assert!(rt; out.bytes() == b"\xa1\x01\x84\x42ab\x65C-DNS\x27\xf6".as_slice());
+            assert!(rt; length == 20);
+        }
+        Err(_) => assert!(rt; false),
+    }
+    let odd = CborFault::Bad {
+        at: 2,
+        why: Why::Odd,
+    };
+    match decode_one(rt.alloc(), b"\xbf\x00\xff".as_slice()) {
+        Ok(_) => assert!(rt; false),
+        Err(fault) => assert!(rt; fault == odd),
+    }
+}
+
+// Writes an event: its shortest head, with the content of its string.
+fn push_event(out: &mut Out, event: &Event) -> Result<(), AllocError> {
+    match event {
+        Event::Uint(n) => push_unsigned(out, *n),
+        Event::Nint(n) => push_negative(out, *n),
+        Event::Bytes(content) => push_bytes(out, content.as_slice()),
+        Event::Text(content) => push_text(out, content.as_slice()),
+        Event::Array(Some(count)) => push_array_head(out, *count),
+        Event::Array(None) => out.push_slice(&[0x9f]),
+        Event::Map(Some(count)) => push_map_head(out, *count),
+        Event::Map(None) => out.push_slice(&[0xbf]),
+        Event::Close => out.push_slice(&[0xff]),
+        Event::Tag(tag) => push_head(out, MajorType::Tag, *tag),
+        Event::Simple(value) => push_head(out, MajorType::Simple, u64::from(*value)),
+        Event::Float => out.push_slice(b"float"),
+    }
+}
+
+// The same where there is an event.
+fn push_step(out: &mut Out, step: &Step) -> Result<(), CborFault> {
+    match step {
+        Step::More => Ok(()),
+        Step::Event(event) => match push_event(out, event) {
+            Ok(()) => Ok(()),
+            Err(_refused) => Err(CborFault::NoMemory),
+        },
+    }
+}
+
+// Feeds bytes one by one, and writes the event that each of them ends.
+fn push_events(reader: &mut Reader, bytes: &[u8], out: &mut Out) -> Result<(), CborFault>
+    requires { reader.old.fed_count + length bytes.now ≤ 2 ^ 48 }
+{
+    'bytes: for byte in bytes {
+        match reader.feed(&[*byte]) {
+            Ok(()) => {}
+            Err(_refused) => return Err(CborFault::NoMemory),
+        }
+        let step = reader.next()?;
+        push_step(out, &step)?;
+    }
+    Ok(())
+}
+
+// 256, and {1(h'6162'): 0.0, -8: ["c", null]} with chunks and a break.
+#[test]
+fn events_come_byte_by_byte(rt: HostRuntime) {
+    let spelled =
+        b"\x19\x01\x00\xbf\xc1\x5f\x41a\x41b\xff\xf9\x00\x00\x27\x82\x61c\xf6\xff".as_slice();
+    let mut reader = Reader::new(rt.alloc());
+    let mut out = Out::new(rt.alloc());
+    let fed = push_events(&mut reader, spelled, &mut out);
+    assert!(rt; fed.is_ok());
+    assert!(rt; out.bytes() == b"\x19\x01\x00\xbf\xc1\x42abfloat\x27\x82\x61c\xf6\xff".as_slice());
+    assert!(rt; reader.position() == 20);
+    let misplaced = CborFault::Bad {
+        at: 2,
+        why: Why::Break,
+    };
+    let mut other = Reader::new(rt.alloc());
+    let fed = push_events(&mut other, b"\x82\x01\xff".as_slice(), &mut out);
+    assert!(rt; fed == Err(misplaced));
 }

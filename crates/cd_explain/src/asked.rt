@@ -15,6 +15,7 @@ pub enum Asked {
     Released,
     Records,
     File,
+    Cbor,
     Words,
     Prefix,
     Checksum,
@@ -34,6 +35,7 @@ impl Asked {
             b"released" => Some(Asked::Released),
             b"records" => Some(Asked::Records),
             b"file" => Some(Asked::File),
+            b"cbor" => Some(Asked::Cbor),
             b"words" => Some(Asked::Words),
             b"prefix" => Some(Asked::Prefix),
             b"checksum" => Some(Asked::Checksum),
@@ -49,7 +51,7 @@ pub struct Request<'a> {
     pub asked: Asked,
     /// Whether each line is an input of its own, in hexadecimal.
     pub hex: bool,
-    /// Captures are fed in chunks of so many bytes, or at once where it is 0.
+    /// Captures, and bytes of CBOR, are fed in chunks of so many bytes, or at once where it is 0.
     pub chunk: usize,
     /// The prefix of IPv6 that the addresses of events are embedded in, if they are (RFC 6052 2.2, with 96 bits).
     pub ipv6: Option<[u8; 16]>,

@@ -9,6 +9,7 @@ use crate::captures::walk;
 use crate::events::{Events, put_events, put_pairs};
 use crate::files::{put_end, put_head};
 use crate::inputs::{bytes_of_hex, words_of_line};
+use crate::items::explain_cbor;
 use crate::messages::explain_message;
 use crate::names::{explain_checksum, explain_name, explain_numbers, explain_prefix};
 use crate::packets::{Layers, Packets, put_walked};
@@ -171,6 +172,12 @@ fn explain_input(
         Asked::Message => {
             let answer_type = answer_type_of(request.words)?;
             explain_message(alloc, text, bytes, answer_type)?;
+        }
+        Asked::Cbor => {
+            if !request.words.is_empty() {
+                return Err(Ended::Usage);
+            }
+            explain_cbor(alloc, text, bytes, request.chunk)?;
         }
         Asked::Name | Asked::Prefix | Asked::Checksum | Asked::Numbers => {
             for word in request.words {

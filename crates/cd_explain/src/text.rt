@@ -24,16 +24,21 @@ pub fn put_optional<V: Display>(
     }
 }
 
-/// Bytes in hexadecimal, and a dash for none.
-pub fn put_hex(text: &mut String, bytes: &[u8]) -> Result<(), AllocError> {
-    if bytes.is_empty() {
-        return text.push('-');
-    }
+/// Bytes in hexadecimal.
+pub fn put_digits(text: &mut String, bytes: &[u8]) -> Result<(), AllocError> {
     for byte in bytes {
         text.push(DIGITS[usize::from(*byte / 16)])?;
         text.push(DIGITS[usize::from(*byte % 16)])?;
     }
     Ok(())
+}
+
+/// Bytes in hexadecimal, and a dash for none.
+pub fn put_hex(text: &mut String, bytes: &[u8]) -> Result<(), AllocError> {
+    if bytes.is_empty() {
+        return text.push('-');
+    }
+    put_digits(text, bytes)
 }
 
 /// A line of a name and bytes in hexadecimal.
