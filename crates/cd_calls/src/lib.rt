@@ -35,6 +35,8 @@ mod settings;
 #[cfg(test)]
 mod store;
 #[cfg(test)]
+mod windows;
+#[cfg(test)]
 mod words;
 #[cfg(test)]
 mod written_names;

@@ -8,6 +8,9 @@
 //!   response, or waits no more, so that no later event changes its record.
 //! - `finish` tells the end of the events: whatever is held is ready then.
 //!
+//! Queries and responses that are held, are unpaired and have open windows stand in lists: of all of their side, by
+//! primary, and by primary and secondary. So a push and a pop take constant time over a run of calls.
+//!
 //! Of each window the relation `StandsFor` (`specs/History.antt`) says for which histories it stands: the events
 //! pushed, and the records popped. What is popped is a front of what is released of the events pushed, and after
 //! `finish` and pops until there is none it is all of their records.
