@@ -1,6 +1,6 @@
 //! Laws of spellings, each the contract of a function that does nothing.
 
-ghost use Rattle.cd_cbor.specs.Laws.{SpelledIsRead, ReadIsSpelled, NoSpellingGoesOn, OneItemIsSpelled, ReadingsStay, WrittenIsSpelling};
+ghost use Rattle.cd_cbor.specs.Laws.{SpelledIsRead, ReadIsSpelled, NoSpellingGoesOn, OneItemIsSpelled, ReadingsStay, WrittenIsSpelling, Scratch};
 
 /// What spells an item is read as that item, to its last byte, whatever stands after it.
 pub fn what_is_spelled_is_read()
@@ -30,4 +30,9 @@ pub fn readings_stay()
 /// What `encode` writes of an item that has a spelling is a spelling of it.
 pub fn what_is_written_is_a_spelling()
     ensures { WrittenIsSpelling }
+{}
+
+/// scratch
+pub fn scratch()
+    ensures { Scratch }
 {}
