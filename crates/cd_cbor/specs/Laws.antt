@@ -36,7 +36,3 @@ ReadingsStay = (bytes : List ℕ) → All (λ byte. byte < 256) bytes → Readin
 -- An item that bytes spell is spelled by those that are written of it, with the shortest heads and definite lengths.
 abbrev pub WrittenIsSpelling : Type 0
 WrittenIsSpelling = (item : Item) (bytes : List ℕ) → length bytes < 2 ^ 64 → Cbor item bytes → Cbor item (spelling item)
-
--- scratch
-abbrev pub Scratch : Type 0
-Scratch = (k : ℕ) → k ≡ k
