@@ -36,10 +36,21 @@ use Rattle.cd_cbor.proofs.Placed.{argument_placed, string_placed, placed_bind, p
 use Rattle.cd_cbor.proofs.Follow.{among, leads_within, follows_ok, stops_here, follows_join, follows_then, leaf_follows, BreakIs, ItemsFollow, follows_map, told_after, front_definite, front_indefinite, front_wrong, with_value, item_told, string_told, value_moved, passed_element, passed_open_key, passed_value, passed_last, break_items, break_value, entry_follows}
 use Rattle.cd_cbor.proofs.FollowItems.{front_byte, byte_stops, break_elements, break_keys, until_follows, string_within, in_chunks, chunks_follow, head_opens, array_rest, map_rest}
 
+-- a simple value or a float, by its value
+abbrev pub simple_read : List ℕ → ℕ → ℕ → ℕ × ℕ → Reading Item
+simple_read fed info at v = cond (nat_eq info 24 && nat_lt v.0 32) (refused at why.Head) (Ok (other (piece at (v.1 - at) fed), v.1))
+
+-- its value, where it is right
+abbrev pub simple_value : ℕ → ℕ × ℕ → Reading ℕ
+simple_value info v = cond (nat_eq info 24 && nat_lt v.0 32) (refused 0 why.Head) (Ok v)
+
+-- its event
+abbrev pub simple_tell : ℕ → ℕ × ℕ → Reading Told
+simple_tell info v = cond (nat_eq info 24 && nat_lt v.0 32) (refused 0 why.Head) (Ok (told.Event (simple_event info v.0) act.Item, v.1))
+
 -- a simple value or a float further
 simple_moved : (fed : List ℕ) (info at : ℕ) (r : Reading ℕ) →
-    (moved_by at (further at) r >>= (λ v. cond (nat_eq info 24 && nat_lt v.0 32) (refused at why.Head) (Ok (other (piece at (v.1 - at) fed), v.1))))
-    ≡ moved_by at (λ x. (other (piece at (at + x.1 - at) fed), at + x.1)) (r >>= (λ v. cond (nat_eq info 24 && nat_lt v.0 32) (refused 0 why.Head) (Ok v)))
+    (moved_by at (further at) r >>= simple_read fed info at) ≡ moved_by at (λ x. (other (piece at (at + x.1 - at) fed), at + x.1)) (r >>= simple_value info)
 simple_moved fed info at (Ok v) =
     let same : at ≡ at + 0 = omega arith in
     elim (cases_Bool (nat_eq info 24 && nat_lt v.0 32)) [
@@ -49,8 +60,7 @@ simple_moved fed info at (Ok v) =
 simple_moved fed info at (Err e) = refl
 
 simple_told : (info : ℕ) (w : List Wanted) (r : Reading ℕ) →
-    ((r >>= (λ v. cond (nat_eq info 24 && nat_lt v.0 32) (refused 0 why.Head) (Ok (told.Event (simple_event info v.0) act.Item, v.1)))) >>= told_after w)
-    ≡ ((r >>= (λ v. cond (nat_eq info 24 && nat_lt v.0 32) (refused 0 why.Head) (Ok v))) >>= (λ x. Ok ((Some (simple_event info x.0), among (passed w)), x.1)))
+    ((r >>= simple_tell info) >>= told_after w) ≡ ((r >>= simple_value info) >>= (λ x. Ok ((Some (simple_event info x.0), among (passed w)), x.1)))
 unfolding acted
 simple_told info w (Ok v) =
     elim (cases_Bool (nat_eq info 24 && nat_lt v.0 32)) [
@@ -104,7 +114,7 @@ module _ (fed : List ℕ) (depth : ℕ) (inner : ItemReader) (each : (depth ≡ 
       (argument_at info 0 (drop at fed)) refl
   definite_follows major.Simple info front =
       let r0 = argument_at info 0 (drop at fed) in
-      let r : Reading ℕ = r0 >>= (λ v. cond (nat_eq info 24 && nat_lt v.0 32) (refused 0 why.Head) (Ok v)) in
+      let r : Reading ℕ = r0 >>= simple_value info in
       leaf_follows fed given w position at r _ (λ x. other (piece at (at + x.1 - at) fed)) (λ x. simple_event info x.0) (λ x. x.1) leads
       (rw (argument_moved info at fed (leads_within fed leads)) (simple_moved fed info at r0)) (front ∙ simple_told info w r0)
       (λ x e. let v = bind_ok r0 _ x e in let test = if_err_else (nat_eq info 24 && nat_lt v.0.0 32) _ _ x v.2 in

@@ -39,17 +39,17 @@ pub front_byte : (fed : List ℕ) (at : ℕ) (first : ℕ) → at ≤ length fed
 front_byte fed at first within there = byte_moved at fed within ∙ ap (moved_by at (λ (b : ℕ). b)) there
 
 -- the break that ends an array
-break_elements : (w : List Wanted) (held : List ℕ) (first : ℕ) → byte_at 0 held ≡ Ok first → first ≡ 255 → front_step (among (wanted.Elements ∷ w)) held ≡ Ok ((Some event.Close, among (passed w)), 1)
+pub break_elements : (w : List Wanted) (held : List ℕ) (first : ℕ) → byte_at 0 held ≡ Ok first → first ≡ 255 → front_step (among (wanted.Elements ∷ w)) held ≡ Ok ((Some event.Close, among (passed w)), 1)
 unfolding step_in head_front indefinite_front break_front acted major_type
 break_elements w held first there is = rw (there, is) refl
 
 -- the break that ends a map
-break_keys : (w : List Wanted) (held : List ℕ) (first : ℕ) → byte_at 0 held ≡ Ok first → first ≡ 255 → front_step (among (wanted.Keys ∷ w)) held ≡ Ok ((Some event.Close, among (passed w)), 1)
+pub break_keys : (w : List Wanted) (held : List ℕ) (first : ℕ) → byte_at 0 held ≡ Ok first → first ≡ 255 → front_step (among (wanted.Keys ∷ w)) held ≡ Ok ((Some event.Close, among (passed w)), 1)
 unfolding step_in head_front indefinite_front break_front acted major_type
 break_keys w held first there is = rw (there, is) refl
 
 -- a fault of the first byte is an end
-byte_stops : (fed : List ℕ) (given : List Event) (wants : List Wanted) (position at place : ℕ) (reason : Why) → Leads fed given (among wants) position at → byte_at 0 (drop at fed) ≡ refused place reason →
+pub byte_stops : (fed : List ℕ) (given : List Event) (wants : List Wanted) (position at place : ℕ) (reason : Why) → Leads fed given (among wants) position at → byte_at 0 (drop at fed) ≡ refused place reason →
     StopsAfter fed given (at + place) reason
 byte_stops fed given wants position at place reason leads none =
     stops_here fed given (among wants) position at place (at + place) reason leads (front_none wants (drop at fed) place reason none)
@@ -110,7 +110,7 @@ content_within bytes is_text head size at content next h =
     let within : at + size ≤ length bytes = ltb-false (length bytes) (at + size) room.0 in
     (omega arith, omega arith)
 
-string_within : (bytes : List ℕ) (is_text : Bool) (before info at : ℕ) (content : List ℕ) (next : ℕ) → string_at is_text before info at bytes ≡ Ok (content, next) → (at < next) × (next ≤ length bytes)
+pub string_within : (bytes : List ℕ) (is_text : Bool) (before info at : ℕ) (content : List ℕ) (next : ℕ) → string_at is_text before info at bytes ≡ Ok (content, next) → (at < next) × (next ≤ length bytes)
 unfolding string_at
 string_within bytes is_text before info at content next h =
     let size = bind_ok (argument_at info at bytes) _ (content, next) h in
@@ -226,7 +226,7 @@ module _ (fed : List ℕ) (w : List Wanted) (is_text : Bool) where
       chunk_go left given content position at leads (byte_at 0 (drop at fed)) refl (λ chunk next further reached. chunks_follow left given (content ++ chunk) position next (omega arith) reached)
 
 -- a head that opens something, by what is read of its argument
-head_opens_at : (fed : List ℕ) (w : List Wanted) (given : List Event) (position at info : ℕ) (rest : ℕ × ℕ → Reading Item) (tell : ℕ → Event) (does : ℕ → Act) → Leads fed given (among w) position at →
+pub head_opens_at : (fed : List ℕ) (w : List Wanted) (given : List Event) (position at info : ℕ) (rest : ℕ × ℕ → Reading Item) (tell : ℕ → Event) (does : ℕ → Act) → Leads fed given (among w) position at →
     (r : Reading ℕ) → argument_at info 0 (drop at fed) ≡ r → front_step (among w) (drop at fed) ≡ ((r >>= (λ n. Ok (told.Event (tell n.0) (does n.0), n.1))) >>= told_after w) →
     ((n size : ℕ) → Leads fed (given ++ tell n ∷ []) (among (acted (does n) w)) (at + size) (at + size) → Follows fed (given ++ tell n ∷ []) (passed w) (rest (n, at + size))) →
     Follows fed given (passed w) (moved_by at (further at) r >>= rest)
@@ -240,7 +240,7 @@ head_opens_at fed w given position at info rest tell does leads (Err (fault.Bad 
 head_opens_at fed w given position at info rest tell does leads (Err fault.NoMemory) gives front next = tt
 
 -- a head that opens something, where one more may be open
-head_opens : (fed : List ℕ) (w : List Wanted) (depth : ℕ) (given : List Event) (position at info : ℕ) (whole : Reading Item) (rest : ℕ × ℕ → Reading Item) (tell : ℕ → Event) (does : ℕ → Act) →
+pub head_opens : (fed : List ℕ) (w : List Wanted) (depth : ℕ) (given : List Event) (position at info : ℕ) (whole : Reading Item) (rest : ℕ × ℕ → Reading Item) (tell : ℕ → Event) (does : ℕ → Act) →
     Leads fed given (among w) position at → whole ≡ opened depth at (argument_at info at fed >>= rest) →
     front_step (among w) (drop at fed) ≡ (opened depth 0 (argument_at info 0 (drop at fed) >>= (λ n. Ok (told.Event (tell n.0) (does n.0), n.1))) >>= told_after w) →
     ((depth ≡ 0 → ⊥) → (n size : ℕ) → Leads fed (given ++ tell n ∷ []) (among (acted (does n) w)) (at + size) (at + size) → Follows fed (given ++ tell n ∷ []) (passed w) (rest (n, at + size))) →
@@ -278,7 +278,7 @@ map_some k w = let back : suc k - 1 ≡ k = omega arith in rw (ne_eqb (suc k) 0 
 
 module _ (fed : List ℕ) (inside : ℕ) (inner : ItemReader) (each : ItemsFollow fed inside inner) (w : List Wanted) (long : length w + 1 + inside ≡ 16) where
   -- the items of an array of so many
-  array_rest : (count : ℕ) (given : List Event) (at : ℕ) → Leads fed given (among (acted (array_act count) w)) at at → Follows fed given (passed w) (times count (inner why.Break) at >>= array_of)
+  pub array_rest : (count : ℕ) (given : List Event) (at : ℕ) → Leads fed given (among (acted (array_act count) w)) at at → Follows fed given (passed w) (times count (inner why.Break) at >>= array_of)
   unfolding times
   array_rest zero given at leads = follows_ok fed given (passed w) (array []) at (subst (λ u. Leads fed given (among u) at at) (array_none w) leads)
   array_rest (suc k) given at leads =
@@ -286,7 +286,7 @@ module _ (fed : List ℕ) (inside : ℕ) (inner : ItemReader) (each : ItemsFollo
       (items_follow fed inside inner each k w given at at long (subst (λ u. Leads fed given (among u) at at) (array_some k w) leads))
 
   -- the pairs of a map of so many
-  map_rest : (count : ℕ) (given : List Event) (at : ℕ) → Leads fed given (among (acted (map_act count) w)) at at → Follows fed given (passed w) (times count (entry_at inner why.Break) at >>= map_of)
+  pub map_rest : (count : ℕ) (given : List Event) (at : ℕ) → Leads fed given (among (acted (map_act count) w)) at at → Follows fed given (passed w) (times count (entry_at inner why.Break) at >>= map_of)
   unfolding times
   map_rest zero given at leads = follows_ok fed given (passed w) (entries []) at (subst (λ u. Leads fed given (among u) at at) (map_none w) leads)
   map_rest (suc k) given at leads =
