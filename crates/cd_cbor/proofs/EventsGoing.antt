@@ -1,14 +1,11 @@
 -- What a head or a chunk tells stays as the bytes go on.
-use Rattle.std.proofs.Common.{◌≡◌, ℕ, ◌+◌, ◌-◌, ◌/◌, ◌%◌, ◌≤◌, Bool, true, false, List, [], ◌∷◌, ◌++◌, length, drop, Option, Some, None, Result, Ok, refl, ap, sym, ◌∙◌, arith, length-append}
+use Rattle.std.proofs.Common.{◌≡◌, ℕ, ◌-◌, ◌/◌, ◌%◌, ◌≤◌, Bool, true, false, List, ◌++◌, length, drop, Option, Some, None, Ok, refl, ap, sym, ◌∙◌}
 use Rattle.std.specs.Prelude.{nat_lt, nat_eq, ◌&&◌}
 use Rattle.std.proofs.lemmas.List.{drop-append-le}
 use Rattle.cd_cbor.specs.Heads.{major_type}
 use Rattle.cd_cbor.specs.Spells.{most_depth}
-use Rattle.cd_cbor.specs.Readings.{◌>>=◌, byte_at}
-use Rattle.cd_cbor.specs.Reading.{argument_at, string_at, chunk_at}
 use Rattle.cd_cbor.specs.Events.{Open, break_front, string_front, definite_front, indefinite_front, head_front, chunk_front, step_in, front_step, innermost}
 use Rattle.cd_cbor.specs.declared.event.Event.{Event}
-use Rattle.cd_cbor.specs.declared.event.Told.{Told}
 use Rattle.cd_cbor.specs.declared.wanted.Wanted.{Wanted}
 use Rattle.cd_cbor.specs.declared.wanted.Wanted.TheVariants as wanted
 use Rattle.cd_cbor.specs.declared.fault.Why.TheVariants as why

@@ -1,17 +1,16 @@
 -- The events of any item follow what is read of it.
-use Rattle.std.proofs.Common.{◌≡◌, ℕ, zero, suc, ◌+◌, ◌-◌, ◌*◌, ◌/◌, ◌%◌, ◌<◌, ◌≤◌, Bool, true, false, cond, List, [], ◌∷◌, ◌++◌, length, drop, Option, Some, None, Result, Ok, Err, inl, inr, refl, ap, sym, subst, ◌∙◌, arith}
+use Rattle.std.proofs.Common.{◌≡◌, ℕ, zero, suc, ◌+◌, ◌-◌, ◌/◌, ◌%◌, ◌<◌, Bool, true, false, cond, List, [], ◌∷◌, ◌++◌, length, drop, Some, None, Result, Ok, Err, inl, inr, refl, ap, sym, subst, ◌∙◌, arith}
 use Rattle.std.specs.Prelude.{nat_lt, nat_eq, ◌&&◌, All}
 use Rattle.std.specs.List.{concat}
-use Rattle.std.proofs.lemmas.Bool.{cases_eq, cases_Bool, eq-eqb, ne_eqb, ltb-true, ltb-false}
-use Rattle.std.proofs.lemmas.List.{length-drop}
+use Rattle.std.proofs.lemmas.Bool.{cases_eq, cases_Bool, eq-eqb, ne_eqb, ltb-false}
 use Rattle.cd_cbor.specs.MajorTypes.{major_number}
 use Rattle.cd_cbor.specs.Heads.{major_type}
 use Rattle.cd_cbor.specs.Items.{unsigned, negative, array, entries}
 use Rattle.cd_cbor.specs.Spells.{other, string_item}
 use Rattle.cd_cbor.specs.Readings.{Reading, ◌>>=◌, refused, piece, byte_at, times, until_break}
 use Rattle.cd_cbor.specs.Reading.{ItemReader, argument_at, string_at, chunk_at, chunks_at, definite_string_at, chunked_string_at, simple_at, entry_at, array_of, map_of, array_at, map_at, tagged_at, open_array_at, open_map_at, definite_at, indefinite_at, item_by, item_at}
-use Rattle.cd_cbor.specs.Events.{Open, passed, acted, array_act, map_act, simple_event, string_event, break_front, innermost, string_front, definite_front, indefinite_front, front_step}
-use Rattle.cd_cbor.specs.Following.{Leads, begins, goes_on, tells, StopsAfter, Follows}
+use Rattle.cd_cbor.specs.Events.{passed, acted, array_act, map_act, simple_event, string_event, break_front, innermost, string_front, definite_front, indefinite_front, front_step}
+use Rattle.cd_cbor.specs.Following.{Leads, goes_on, tells, Follows}
 use Rattle.cd_cbor.specs.EventLaws.{EventsFollow}
 use Rattle.cd_cbor.specs.declared.item.Item.{Item}
 use Rattle.cd_cbor.specs.declared.event.Event.{Event}

@@ -1,38 +1,32 @@
 -- The events of arrays, maps, tags and strings in chunks follow what is read of them.
-use Rattle.std.proofs.Common.{◌≡◌, ℕ, zero, suc, ◌+◌, ◌-◌, ◌*◌, ◌/◌, ◌%◌, ◌<◌, ◌≤◌, Bool, true, false, cond, List, [], ◌∷◌, ◌++◌, length, drop, Option, Some, None, Result, Ok, Err, inl, inr, refl, ap, sym, subst, ◌∙◌, arith, append_assoc, append-nil, length-append}
-use Rattle.std.specs.Prelude.{nat_lt, nat_eq, ◌&&◌, All}
-use Rattle.std.specs.List.{concat}
-use Rattle.std.proofs.lemmas.Bool.{cases_eq, cases_Bool, eq-eqb, ne_eqb, eqb-true, eqb-false, ltb-true, ltb-false}
+use Rattle.std.proofs.Common.{◌≡◌, ℕ, zero, suc, ◌+◌, ◌-◌, ◌%◌, ◌<◌, ◌≤◌, Bool, List, [], ◌∷◌, ◌++◌, length, drop, Some, None, Result, Ok, Err, inl, inr, refl, ap, sym, subst, ◌∙◌, arith, length-append}
+use Rattle.std.specs.Prelude.{nat_lt}
+use Rattle.std.proofs.lemmas.Bool.{cases_eq, eq-eqb, ne_eqb, ltb-false}
 use Rattle.std.proofs.lemmas.List.{length-drop}
 use Rattle.cd_cbor.specs.Heads.{major_type}
-use Rattle.cd_cbor.specs.MajorTypes.{major_number}
-use Rattle.cd_cbor.specs.Items.{unsigned, negative, array, entries}
-use Rattle.cd_cbor.specs.Spells.{other, string_item, most_string, is_content}
+use Rattle.cd_cbor.specs.Items.{array, entries}
+use Rattle.cd_cbor.specs.Spells.{most_string, is_content}
 use Rattle.cd_cbor.specs.Readings.{Reading, ◌>>=◌, refused, piece, byte_at, times, until_break}
-use Rattle.cd_cbor.specs.Reading.{ItemReader, opened, argument_at, content_at, string_at, is_chunk, chunk_at, chunks_at, joined, definite_string_at, chunked_string_at, simple_at, entry_at, array_of, map_of, array_at, map_at, tagged_at, open_array_at, open_map_at, definite_at, indefinite_at, item_by, item_at}
-use Rattle.cd_cbor.specs.Events.{Open, passed, acted, array_act, map_act, simple_event, string_event, break_front, innermost, head_front, string_front, definite_front, indefinite_front, chunk_front, step_in, front_step}
-use Rattle.cd_cbor.specs.Following.{Leads, begins, goes_on, tells, StopsAfter, Follows}
+use Rattle.cd_cbor.specs.Reading.{ItemReader, opened, argument_at, content_at, string_at, is_chunk, chunk_at, entry_at, array_of, map_of}
+use Rattle.cd_cbor.specs.Events.{Open, passed, acted, array_act, map_act, string_event, break_front, head_front, indefinite_front, chunk_front, step_in, front_step}
+use Rattle.cd_cbor.specs.Following.{Leads, goes_on, tells, StopsAfter, Follows}
 use Rattle.cd_cbor.specs.declared.item.Item.{Item}
 use Rattle.cd_cbor.specs.declared.event.Event.{Event}
 use Rattle.cd_cbor.specs.declared.event.Event.TheVariants as event
-use Rattle.cd_cbor.specs.declared.event.Told.{Told}
 use Rattle.cd_cbor.specs.declared.event.Told.TheVariants as told
 use Rattle.cd_cbor.specs.declared.event.Act.{Act}
-use Rattle.cd_cbor.specs.declared.event.Act.TheVariants as act
 use Rattle.cd_cbor.specs.declared.wanted.Wanted.{Wanted}
 use Rattle.cd_cbor.specs.declared.wanted.Wanted.TheVariants as wanted
 use Rattle.cd_cbor.specs.declared.fault.Why.{Why}
 use Rattle.cd_cbor.specs.declared.fault.Why.TheVariants as why
 use Rattle.cd_cbor.specs.declared.fault.CborFault.{CborFault}
 use Rattle.cd_cbor.specs.declared.fault.CborFault.TheVariants as fault
-use Rattle.cd_cbor.specs.declared.major_type.MajorType.{MajorType}
-use Rattle.cd_cbor.specs.declared.major_type.MajorType.TheVariants as major
 use Rattle.cd_cbor.proofs.Binds.{bind_ok, ok_same, if_ok_else, if_err_else}
 use Rattle.cd_cbor.proofs.Growing.{argument_within}
-use Rattle.cd_cbor.proofs.Stands.{byte_there, byte_small, number_of_type}
-use Rattle.cd_cbor.proofs.Moved.{moved_by, further, chunk_further, byte_moved, argument_moved, string_moved, chunk_moved}
-use Rattle.cd_cbor.proofs.Placed.{IsPlaced, byte_placed, argument_placed, string_placed, chunk_placed, placed_bind, placed_if, placed_ok, placed_refused}
-use Rattle.cd_cbor.proofs.Follow.{among, leads_within, follows_ok, stops_here, follows_join, follows_then, leaf_follows, BreakIs, ItemsFollow, follows_map, told_after, front_definite, front_indefinite, front_wrong, front_none, with_value, item_told, string_told, value_moved, passed_element, passed_open_key, passed_value, passed_last, break_items, break_value, entry_follows, items_follow, pairs_follow}
+use Rattle.cd_cbor.proofs.Stands.{byte_there}
+use Rattle.cd_cbor.proofs.Moved.{moved_by, further, chunk_further, byte_moved, argument_moved, chunk_moved}
+use Rattle.cd_cbor.proofs.Placed.{byte_placed, argument_placed, chunk_placed}
+use Rattle.cd_cbor.proofs.Follow.{among, leads_within, follows_ok, stops_here, follows_join, follows_then, ItemsFollow, follows_map, told_after, front_none, items_follow, pairs_follow}
 
 -- the byte at an offset is that at the front of the bytes from there on
 pub front_byte : (fed : List ℕ) (at : ℕ) (first : ℕ) → at ≤ length fed → byte_at 0 (drop at fed) ≡ Ok first → byte_at at fed ≡ Ok first
@@ -257,7 +251,6 @@ head_opens fed w depth given position at info whole rest tell does leads is fron
           let stops : front_step (among w) (drop at fed) ≡ ((r >>= (λ n. Ok (told.Event (tell n.0) (does n.0), n.1))) >>= told_after w) = front ∙ rw (ne_eqb depth 0 some, gives) refl in
           subst (λ (t : Reading Item). Follows fed given (passed w) t) (sym here) (head_opens_at fed w given position at info rest tell does leads r gives stops (next some))
     ]
-
 
 -- what an array and a map do where they hold nothing, and where they hold something
 array_none : (w : List Wanted) → acted (array_act 0) w ≡ passed w

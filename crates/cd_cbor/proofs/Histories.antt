@@ -1,12 +1,11 @@
 -- The history of a reader, step by step.
-use Rattle.std.proofs.Common.{◌≡◌, ℕ, ◌+◌, ◌-◌, ◌≤◌, Bool, List, [], ◌∷◌, ◌++◌, length, drop, Option, Some, None, Result, Ok, Err, refl, ap, sym, subst, ◌∙◌, arith, length-append}
+use Rattle.std.proofs.Common.{◌≡◌, ℕ, ◌+◌, ◌≤◌, List, [], ◌∷◌, ◌++◌, length, drop, Some, None, Ok, Err, refl, ap, sym, subst, ◌∙◌, arith, length-append}
 use Rattle.std.proofs.lemmas.List.{drop-append-le, drop-drop, length-drop}
 use Rattle.cd_cbor.specs.Readings.{refused}
 use Rattle.cd_cbor.specs.Events.{Open, front_step, nothing_open}
 use Rattle.cd_cbor.specs.Following.{Kept, Leads, begins, goes_on, tells, StandsFor, Stops, Steps}
 use Rattle.cd_cbor.specs.declared.event.Event.{Event}
 use Rattle.cd_cbor.specs.declared.fault.Why.{Why}
-use Rattle.cd_cbor.specs.declared.fault.CborFault.{CborFault}
 use Rattle.cd_cbor.specs.declared.fault.CborFault.TheVariants as fault
 use Rattle.cd_cbor.proofs.EventsGoing.{step_stays}
 

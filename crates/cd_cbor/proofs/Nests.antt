@@ -1,10 +1,9 @@
 -- What is open, the innermost last.
-use Rattle.std.proofs.Common.{◌≡◌, ℕ, ◌+◌, ◌-◌, ◌<◌, ◌≤◌, List, [], ◌∷◌, ◌++◌, length, drop, reverse, Option, Some, None, true, refl, ap, sym, ◌∙◌, arith}
+use Rattle.std.proofs.Common.{◌≡◌, ◌<◌, List, [], ◌∷◌, ◌++◌, length, drop, reverse, Option, Some, None, refl, ap, sym, ◌∙◌, arith}
 use Rattle.std.specs.Prelude.{◌↔◌, IsSome, option_to_list}
 use Rattle.std.proofs.lemmas.List.{reverse-append}
-use Rattle.cd_cbor.specs.Events.{passed, acted, after_one, innermost}
+use Rattle.cd_cbor.specs.Events.{passed, acted, after_one}
 use Rattle.cd_cbor.specs.declared.wanted.Wanted.{Wanted}
-use Rattle.cd_cbor.specs.declared.event.Act.{Act}
 use Rattle.cd_cbor.specs.declared.event.Act.TheVariants as act
 
 -- the last is the innermost

@@ -1,6 +1,6 @@
 -- A fault at the front, but for an end, stands at its head.
-use Rattle.std.proofs.Common.{◌≡◌, ℕ, ◌+◌, ◌-◌, ◌/◌, ◌%◌, ◌≤◌, Bool, true, false, cond, List, length, drop, Result, Ok, Err, refl, ap, sym, ◌∙◌}
-use Rattle.std.specs.Prelude.{nat_lt, nat_eq, ◌&&◌}
+use Rattle.std.proofs.Common.{◌≡◌, ℕ, ◌+◌, ◌%◌, Bool, true, false, cond, List, length, Result, Ok, Err}
+use Rattle.std.specs.Prelude.{nat_lt}
 use Rattle.cd_cbor.specs.Heads.{argument_size}
 use Rattle.cd_cbor.specs.Spells.{most_string, is_content}
 use Rattle.cd_cbor.specs.Readings.{◌>>=◌, refused, ends, piece, byte_at}

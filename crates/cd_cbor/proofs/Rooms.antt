@@ -1,10 +1,9 @@
 -- A head that opens something is read only where one more may be open.
-use Rattle.std.proofs.Common.{◌≡◌, ℕ, ◌+◌, ◌^◌, ◌<◌, ◌≤◌, Bool, true, false, cond, List, length, inl, inr, refl, arith}
+use Rattle.std.proofs.Common.{ℕ, ◌<◌, inl, inr}
 use Rattle.std.specs.Prelude.{nat_eq}
 use Rattle.std.proofs.lemmas.Bool.{cases_Bool}
 use Rattle.cd_cbor.specs.Events.{HasRoom, array_act, map_act}
 use Rattle.cd_cbor.specs.declared.event.Event.{Event}
-use Rattle.cd_cbor.specs.declared.event.Told.{Told}
 use Rattle.cd_cbor.specs.declared.event.Told.TheVariants as told
 
 pub array_room : (room count : ℕ) (e : Event) → 0 < room → HasRoom room (told.Event e (array_act count))

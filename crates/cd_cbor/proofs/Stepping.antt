@@ -1,5 +1,5 @@
 -- What a reader keeps after a head or a chunk.
-use Rattle.std.proofs.Common.{◌≡◌, ℕ, ◌+◌, ◌-◌, ◌≤◌, Bool, List, [], ◌∷◌, ◌++◌, length, drop, Option, Some, None, Result, Ok, Err, refl, ap, sym, ◌∙◌, arith}
+use Rattle.std.proofs.Common.{◌≡◌, ℕ, ◌-◌, Bool, List, [], length, Option, Some, None, Ok, Err, refl}
 use Rattle.std.specs.Option.{option_map}
 use Rattle.cd_cbor.specs.Readings.{refused, GivesFault}
 use Rattle.cd_cbor.specs.Following.{Kept, Steps, Chunks}

@@ -1,9 +1,9 @@
 -- What a reader tells of items, head by head, however their bytes are cut. What is read stands at the front of the bytes
 -- that are held, so a fault of a head has the offset 0 there.
-use Rattle.std.specs.Prelude.{◌≡◌, ℕ, ◌+◌, ◌-◌, ◌/◌, ◌%◌, ◌≤◌, ◌<◌, nat_lt, nat_eq, Bool, true, false, ◌&&◌, List, [], ◌∷◌, ◌++◌, length, drop, Option, Some, None, Result, Ok, Err, if◌then◌else◌}
+use Rattle.std.specs.Prelude.{ℕ, ◌-◌, ◌/◌, ◌%◌, ◌<◌, nat_lt, nat_eq, Bool, true, false, ◌&&◌, List, [], ◌∷◌, ◌++◌, length, drop, Option, Some, None, Ok, if◌then◌else◌}
 use Rattle.cd_cbor.specs.Heads.{major_type}
 use Rattle.cd_cbor.specs.Spells.{most_depth}
-use Rattle.cd_cbor.specs.Readings.{Reading, ◌>>=◌, refused, ends, byte_at}
+use Rattle.cd_cbor.specs.Readings.{Reading, ◌>>=◌, refused, byte_at}
 use Rattle.cd_cbor.specs.Reading.{argument_at, string_at, chunk_at, opened}
 use Rattle.cd_cbor.specs.declared.wanted.Wanted.{Wanted}
 use Rattle.cd_cbor.specs.declared.wanted.Wanted.TheVariants as wanted
@@ -13,9 +13,7 @@ use Rattle.cd_cbor.specs.declared.event.Act.{Act}
 use Rattle.cd_cbor.specs.declared.event.Act.TheVariants as act
 use Rattle.cd_cbor.specs.declared.event.Told.{Told}
 use Rattle.cd_cbor.specs.declared.event.Told.TheVariants as told
-use Rattle.cd_cbor.specs.declared.fault.Why.{Why}
 use Rattle.cd_cbor.specs.declared.fault.Why.TheVariants as why
-use Rattle.cd_cbor.specs.declared.fault.CborFault.{CborFault}
 use Rattle.cd_cbor.specs.declared.major_type.MajorType.{MajorType}
 use Rattle.cd_cbor.specs.declared.major_type.MajorType.TheVariants as major
 
@@ -91,18 +89,18 @@ definite_front room major.Text info bytes = do
   content ← string_front true info bytes
   Ok (told.Event content.0 act.Item, content.1)
 definite_front room major.Array info bytes = opened room 0 (do
-    count ← argument_at info 0 bytes
-    Ok (told.Event (event.Array (Some count.0)) (array_act count.0), count.1))
+  count ← argument_at info 0 bytes
+  Ok (told.Event (event.Array (Some count.0)) (array_act count.0), count.1))
 definite_front room major.Map info bytes = opened room 0 (do
-    count ← argument_at info 0 bytes
-    Ok (told.Event (event.Map (Some count.0)) (map_act count.0), count.1))
+  count ← argument_at info 0 bytes
+  Ok (told.Event (event.Map (Some count.0)) (map_act count.0), count.1))
 definite_front room major.Tag info bytes = opened room 0 (do
-    tag ← argument_at info 0 bytes
-    Ok (told.Event (event.Tag tag.0) (act.Enter (wanted.Items 0)), tag.1))
+  tag ← argument_at info 0 bytes
+  Ok (told.Event (event.Tag tag.0) (act.Enter (wanted.Items 0)), tag.1))
 definite_front room major.Simple info bytes = do
   value ← argument_at info 0 bytes
   if nat_eq info 24 && nat_lt value.0 32 then refused 0 why.Head
-    else Ok (told.Event (simple_event info value.0) act.Item, value.1)
+      else Ok (told.Event (simple_event info value.0) act.Item, value.1)
 
 -- a head of one byte that tells no length
 unfoldable pub indefinite_front : ℕ → Option Wanted → MajorType → Reading Told
@@ -120,8 +118,8 @@ unfoldable pub head_front : ℕ → Option Wanted → List ℕ → Reading Told
 head_front room top bytes = do
   first ← byte_at 0 bytes
   if nat_lt (first % 32) 28 then definite_front room (major_type (first / 32)) (first % 32) bytes
-    else (if nat_lt (first % 32) 31 then refused 0 why.Head
-    else indefinite_front room top (major_type (first / 32)))
+      else (if nat_lt (first % 32) 31 then refused 0 why.Head
+      else indefinite_front room top (major_type (first / 32)))
 
 -- what is open between two heads: arrays, maps and tags, from the innermost on, and the content of a string in chunks
 pub record Open : Type 0 where
@@ -143,9 +141,9 @@ unfoldable pub chunk_front : Bool → List ℕ → List ℕ → Reading (Option 
 chunk_front is_text content bytes = do
   first ← byte_at 0 bytes
   if nat_eq first 0xff then Ok ((Some (string_event is_text content), None), 1)
-    else (do
-      chunk ← chunk_at is_text bytes (length content, 0)
-      Ok ((None, Some (is_text, content ++ chunk.0)), chunk.1.1))
+      else (do
+        chunk ← chunk_at is_text bytes (length content, 0)
+        Ok ((None, Some (is_text, content ++ chunk.0)), chunk.1.1))
 
 -- what is open after a chunk: where it ends its string, that is an item
 abbrev pub after_chunk : List Wanted → Option Event × Option (Bool × List ℕ) → Option Event × Open

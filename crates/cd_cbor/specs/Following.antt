@@ -1,5 +1,5 @@
 -- What a reader of events keeps, and for which histories it stands.
-use Rattle.std.specs.Prelude.{◌≡◌, ℕ, ◌+◌, ◌-◌, ◌≤◌, List, [], ◌∷◌, ◌++◌, length, drop, Option, Some, None, Result, Ok, Err, Bool}
+use Rattle.std.specs.Prelude.{◌≡◌, ℕ, ◌+◌, ◌≤◌, List, [], ◌∷◌, ◌++◌, length, drop, Option, Some, None, Result, Ok, Err, Bool}
 use Rattle.cd_cbor.specs.Readings.{Reading, refused}
 use Rattle.cd_cbor.specs.Events.{Open, front_step, nothing_open, chunk_front}
 use Rattle.cd_cbor.specs.declared.event.Event.{Event}

@@ -133,7 +133,10 @@ fn definite_front(
                 return Err(bad(0, Why::Depth));
             }
             let (count, size) = argument_at(bytes, info, 0)?;
-            Ok((Told::Event(Event::Array(Some(count)), array_act(count)), size))
+            Ok((
+                Told::Event(Event::Array(Some(count)), array_act(count)),
+                size,
+            ))
         }
         MajorType::Map => {
             if room == 0 {
@@ -147,7 +150,10 @@ fn definite_front(
                 return Err(bad(0, Why::Depth));
             }
             let (tag, size) = argument_at(bytes, info, 0)?;
-            Ok((Told::Event(Event::Tag(tag), Act::Enter(Wanted::Items(0))), size))
+            Ok((
+                Told::Event(Event::Tag(tag), Act::Enter(Wanted::Items(0))),
+                size,
+            ))
         }
         MajorType::Simple => {
             let (value, size) = argument_at(bytes, info, 0)?;
@@ -179,7 +185,10 @@ fn indefinite_front(
             if room == 0 {
                 return Err(bad(0, Why::Depth));
             }
-            Ok((Told::Event(Event::Array(None), Act::Enter(Wanted::Elements)), 1))
+            Ok((
+                Told::Event(Event::Array(None), Act::Enter(Wanted::Elements)),
+                1,
+            ))
         }
         MajorType::Map => {
             if room == 0 {

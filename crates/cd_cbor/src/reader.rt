@@ -228,7 +228,12 @@ impl Reader {
                 Ok(None) => {}
                 Ok(Some(event)) => return Ok(Step::Event(event)),
                 Err(CborFault::NoMemory) => return Err(CborFault::NoMemory),
-                Err(CborFault::Bad { at: _, why: Why::End }) => return Ok(Step::More),
+                Err(
+                    CborFault::Bad {
+                        at: _,
+                        why: Why::End,
+                    },
+                ) => return Ok(Step::More),
                 Err(CborFault::Bad { at: _, why }) => {
                     return Err(CborFault::Bad { at: self.at, why });
                 }

@@ -1,5 +1,5 @@
 -- What is taken from the end is the innermost.
-use Rattle.std.proofs.Common.{◌≡◌, ◌+◌, ◌<◌, ◌≤◌, ◌∙◌, length, reverse, ap, sym, arith}
+use Rattle.std.proofs.Common.{◌<◌, ◌∙◌, length, reverse, ap, sym, arith}
 use Rattle.cd_cbor.proofs.Nests.{passed_none, passed_whole, passed_still}
 use Rattle.cd_cbor.proofs.nest.pass_item.Goals as goal
 

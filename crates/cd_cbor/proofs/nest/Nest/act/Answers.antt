@@ -1,5 +1,5 @@
 -- Each act is what it does to what is open.
-use Rattle.std.proofs.Common.{◌≡◌, ◌∷◌, ◌∙◌, ap, drop}
+use Rattle.std.proofs.Common.{◌∷◌, ◌∙◌, ap, drop}
 use Rattle.cd_cbor.specs.Events.{passed}
 use Rattle.cd_cbor.proofs.Nests.{last_first, closed_drop, acted_item, acted_enter, acted_close}
 use Rattle.cd_cbor.proofs.nest.Nest.act.Goals as goal

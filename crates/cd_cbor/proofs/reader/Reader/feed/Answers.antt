@@ -1,4 +1,4 @@
-use Rattle.std.proofs.Common.{◌≡◌, ◌∙◌, ◌++◌, ap, sym, subst, drop, refl}
+use Rattle.std.proofs.Common.{◌∙◌, ap, sym, subst, drop, refl}
 use Rattle.std.proofs.lemmas.List.{drop-append-le}
 use Rattle.cd_cbor.specs.Following.{StandsFor}
 use Rattle.cd_cbor.proofs.Histories.{stands_feed}

@@ -1,4 +1,4 @@
-use Rattle.std.proofs.Common.{◌≡◌, None, ap, drop, refl}
+use Rattle.std.proofs.Common.{None, ap, drop, refl}
 use Rattle.cd_cbor.proofs.Histories.{stands_new}
 use Rattle.cd_cbor.proofs.reader.Reader.new.Goals as goal
 

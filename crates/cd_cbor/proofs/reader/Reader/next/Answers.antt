@@ -1,5 +1,5 @@
 -- Each step of the loop is a step of the history.
-use Rattle.std.proofs.Common.{◌≡◌, ◌∙◌, Ok, subst}
+use Rattle.std.proofs.Common.{◌∙◌, Ok, subst}
 use Rattle.cd_cbor.specs.Following.{Steps}
 use Rattle.cd_cbor.proofs.Histories.{stands_on, stands_told}
 use Rattle.cd_cbor.proofs.reader.Reader.next.Goals as goal

@@ -1,7 +1,7 @@
 -- A chunk at the front is one of the definition.
-use Rattle.std.proofs.Common.{◌≡◌, ◌+◌, ◌-◌, ◌≤◌, ◌∙◌, length, drop, Some, None, ap, sym, subst, refl, arith}
+use Rattle.std.proofs.Common.{◌≡◌, ◌+◌, ◌∙◌, length, drop, Some, ap, sym, refl, arith}
 use Rattle.std.specs.Option.{option_map}
-use Rattle.std.proofs.lemmas.List.{drop-drop, length-drop}
+use Rattle.std.proofs.lemmas.List.{drop-drop}
 use Rattle.cd_cbor.specs.Events.{front_step}
 use Rattle.cd_cbor.proofs.Stepping.{some_of_map, kind_of, with_content, chunk_on, chunk_ends, chunk_stops}
 use Rattle.cd_cbor.proofs.reader.Reader.step_chunk.Goals as goal
@@ -29,12 +29,11 @@ returns-in-None c =
     let some : c.self.inside.chunks ≡ Some c.args.is_text = some_of_map c.self.inside.chunks c.self.inside.content.items c.args.is_text (ap (λ r. option_map kind_of r.open_now.chunks) c.self.view_is ∙ c.requires) in
     let string = ap (option_map (with_content c.self.inside.content.items)) some in
     let long : length (drop c.self.inside.start c.self.inside.bytes.items) ≡ length c.args.self.now.held = ap length held_is in
-    let told = rw c.in-None.is at c.in-Ok.ensures.told in
-    (
+    let told = rw c.in-None.is at c.in-Ok.ensures.told in (
       c.in-Ok.found.1,
       ap (λ o. front_step o c.args.self.now.held) (sym open_is)
-      ∙ chunk_on c.self.inside.nest _ c.args.is_text c.self.inside.content.items c.args.self.now.held c.rest-held.result.now string (c.rest-held.ensures ∙ held_is) c.chunk_front.new.content.items _ c.in-Ok.found.1
-      told (ap (option_map (with_content c.chunk_front.new.content.items)) some),
+          ∙ chunk_on c.self.inside.nest _ c.args.is_text c.self.inside.content.items c.args.self.now.held c.rest-held.result.now string (c.rest-held.ensures ∙ held_is) c.chunk_front.new.content.items _ c.in-Ok.found.1
+          told (ap (option_map (with_content c.chunk_front.new.content.items)) some),
       omega (arith, c.in-Ok.ensures.within),
       omega (arith, c.in-Ok.ensures.within, ap length c.rest-held.ensures),
       sym (drop-drop c.in-Ok.found.1 c.self.inside.start c.self.inside.bytes.items) ∙ ap (drop c.in-Ok.found.1) held_is,
@@ -50,12 +49,11 @@ returns-in-Some c =
     let some : c.self.inside.chunks ≡ Some c.args.is_text = some_of_map c.self.inside.chunks c.self.inside.content.items c.args.is_text (ap (λ r. option_map kind_of r.open_now.chunks) c.self.view_is ∙ c.requires) in
     let string = ap (option_map (with_content c.self.inside.content.items)) some in
     let long : length (drop c.self.inside.start c.self.inside.bytes.items) ≡ length c.args.self.now.held = ap length held_is in
-    let told = rw c.in-Some.is at c.in-Ok.ensures.told in
-    (
+    let told = rw c.in-Some.is at c.in-Ok.ensures.told in (
       c.in-Ok.found.1,
       ap (λ o. front_step o c.args.self.now.held) (sym open_is)
-      ∙ chunk_ends c.self.inside.nest _ c.args.is_text c.self.inside.content.items c.args.self.now.held c.rest-held.result.now string (c.rest-held.ensures ∙ held_is) c.in-Some.event c.in-Ok.found.1 c.pass.new.self
-      told.0 c.pass.ensures,
+          ∙ chunk_ends c.self.inside.nest _ c.args.is_text c.self.inside.content.items c.args.self.now.held c.rest-held.result.now string (c.rest-held.ensures ∙ held_is) c.in-Some.event c.in-Ok.found.1 c.pass.new.self
+          told.0 c.pass.ensures,
       omega (arith, c.in-Ok.ensures.within),
       omega (arith, c.in-Ok.ensures.within, ap length c.rest-held.ensures),
       sym (drop-drop c.in-Ok.found.1 c.self.inside.start c.self.inside.bytes.items) ∙ ap (drop c.in-Ok.found.1) held_is,
