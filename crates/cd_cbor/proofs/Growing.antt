@@ -91,7 +91,7 @@ argument_goes bytes more info at =
     (λ enough. goes_ok bytes _ _ (ap (λ t. (argument_of info t, at + 1 + size)) (piece_stays bytes more (at + 1) size enough)))
 
 -- an argument that is read lies within
-argument_within : (bytes : List ℕ) (info at n next : ℕ) → argument_at info at bytes ≡ Ok (n, next) → (at < next) × (next ≤ length bytes)
+pub argument_within : (bytes : List ℕ) (info at n next : ℕ) → argument_at info at bytes ≡ Ok (n, next) → (at < next) × (next ≤ length bytes)
 unfolding argument_at
 argument_within bytes info at n next h =
     let test = if_err_else (nat_lt (length bytes) (at + 1 + argument_size info)) _ _ (n, next) h in

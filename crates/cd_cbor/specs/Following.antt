@@ -1,8 +1,9 @@
 -- What a reader of events keeps, and for which histories it stands.
 use Rattle.std.specs.Prelude.{◌≡◌, ℕ, ◌+◌, ◌≤◌, List, [], ◌∷◌, ◌++◌, length, drop, Option, Some, None, Result, Ok, Err, Bool}
-use Rattle.cd_cbor.specs.Readings.{refused}
+use Rattle.cd_cbor.specs.Readings.{Reading, refused}
 use Rattle.cd_cbor.specs.Events.{Open, front_step, nothing_open, chunk_front}
 use Rattle.cd_cbor.specs.declared.event.Event.{Event}
+use Rattle.cd_cbor.specs.declared.wanted.Wanted.{Wanted}
 use Rattle.cd_cbor.specs.declared.event.Step.{Step}
 use Rattle.cd_cbor.specs.declared.event.Step.TheVariants as step
 use Rattle.cd_cbor.specs.declared.fault.Why.{Why}
@@ -75,3 +76,21 @@ Steps old new (Ok e) =
     × (new.position ≡ position_after e old.position new.at)
 Steps old new (Err (fault.Bad place reason)) = (front_step old.open_now old.held ≡ refused place reason) × (new ≡ old)
 Steps old new (Err fault.NoMemory) = new ≡ old
+
+-- After these events more follow, and then this fault, at this offset unless it is an end.
+pub record StopsAfter (fed : List ℕ) (given : List Event) (place : ℕ) (reason : Why) : Type 0 where
+  pub told : List Event
+  pub now : Open
+  pub position : ℕ
+  pub at : ℕ
+  pub inside : ℕ
+  pub leads : Leads fed (given ++ told) now position at
+  pub stops : front_step now (drop at fed) ≡ refused inside reason
+  pub there : (reason ≡ why.End → ⊥) → at ≡ place
+
+-- Events follow what is read: where it is a value, those up to its end, after which this is open; and where it is a
+-- fault, those up to that fault.
+abbrev pub Follows : {A : Type 0} → List ℕ → List Event → List Wanted → Reading A → Type 0
+Follows fed given after (Ok x) = (told : List Event) × Leads fed (given ++ told) (record { wants = after; chunks = None }) x.1 x.1
+Follows fed given after (Err (fault.Bad place reason)) = StopsAfter fed given place reason
+Follows fed given after (Err fault.NoMemory) = Unit {0}

@@ -8,4 +8,5 @@ pub mod Readings
 pub mod Reading
 pub mod Events
 pub mod Following
+pub mod EventLaws
 pub mod Laws

@@ -1,6 +1,7 @@
 //! Laws of spellings, each the contract of a function that does nothing.
 
 ghost use Rattle.cd_cbor.specs.Laws.{SpelledIsRead, ReadIsSpelled, NoSpellingGoesOn, OneItemIsSpelled, ReadingsStay, WrittenIsSpelling};
+ghost use Rattle.cd_cbor.specs.EventLaws.{EventsFollow};
 
 /// What spells an item is read as that item, to its last byte, whatever stands after it.
 pub fn what_is_spelled_is_read()
@@ -30,4 +31,10 @@ pub fn readings_stay()
 /// What `encode` writes of an item that has a spelling is a spelling of it.
 pub fn what_is_written_is_a_spelling()
     ensures { WrittenIsSpelling }
+{}
+
+/// Where an item is due, the events that a reader gives are those of what is read there: up to the end of the item, or
+/// up to the first fault, at its place.
+pub fn events_follow_items()
+    ensures { EventsFollow }
 {}
