@@ -1,7 +1,7 @@
 -- What waits once the next event is held, and once a record is popped.
 use Rattle.std.proofs.Common.{◌≡◌, ℕ, ◌+◌, ◌≤◌, Bool, true, false, not, ◌&&◌, eqb, List, [], ◌∷◌, ◌++◌, length, set, cond, filter, Option, Some, None, refl, ap, sym, ◌∙◌, subst, arith, inl, inr}
 use Rattle.std.specs.Prelude.{is_none}
-use Rattle.std.proofs.lemmas.Bool.{cases_Bool, cases_eq, ne_eqb, true≢false, and_parts, false_from_ne_true}
+use Rattle.std.proofs.lemmas.Bool.{cases_Bool, cases_eq, ne_eqb, true≢false, and_parts}
 use Rattle.std.proofs.lemmas.List.{append-nil}
 use Rattle.std.proofs.lemmas.List.Elements.{filter-append}
 use Rattle.cd_pairing.specs.declared.keyed.Side.{Side}
@@ -15,7 +15,7 @@ use Rattle.cd_window.specs.Seen.{Seen, count_of, stamped, waits_after}
 use Rattle.cd_window.specs.Pushes.{with_partner}
 use Rattle.cd_window.specs.Places.{with_stamp, place_at, place_fits, HoldsNext, held_next}
 use Rattle.cd_window.specs.Waiting.{Waits, waits_with, waits_at, same_side, waits_from, waiting, waits_still, but_at, left_of, joined_by}
-use Rattle.cd_window.specs.Joining.{before_next, after_next, Meets, Joins}
+use Rattle.cd_window.specs.Joining.{after_next, Meets, Joins}
 use Rattle.cd_window.proofs.Conjunctions.{and_false, and_other, swap_last}
 use Rattle.cd_window.proofs.Picking.{waits_filter, waits_same, waits_push, waits_set}
 use Rattle.cd_window.proofs.Partners.{side_is, still_sooner, FoundAt, Found}
@@ -183,7 +183,6 @@ other_waits {E} view w e next met new side N count F H apart = elim F [
       ∙ sym grown_is
 ]
 
--- who waits by the stamp after the next event waited by the one before
 pub record Waited {E : Type 0} (view : E → EventView) (w : Seen E) (queries responses : List Waits) : Type 0 where
   pub queries_are : queries ≡ waiting view w Query
   pub responses_are : responses ≡ waiting view w Response

@@ -6,8 +6,8 @@ use Rattle.cd_window.proofs.Listing.{first_in}
 use Rattle.cd_window.proofs.Passing.{from_slot, from_first, passes, stops, in_list}
 use Rattle.cd_window.proofs.lists.first_open.Goals as goal
 
-pub passing-initial : goal.passing-initial
-passing-initial c =
+pub passing-init : goal.passing-init
+passing-init c =
     let slots = slots_of (list_at c.args.store.now c.args.lane c.args.list) in
     record {
       used = c.first-found.ensures.used;
