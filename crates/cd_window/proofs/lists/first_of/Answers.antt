@@ -10,11 +10,11 @@ use Rattle.cd_window.proofs.Passing.{distinct_filter, filter_swap}
 use Rattle.cd_window.proofs.lists.first_of.Goals as goal
 
 pub first_open-requires-clause-there : goal.first_open-requires-clause-there
-first_open-requires-clause-there c = subst (λ o. IsSome o) (sym (c.requires.1.0.lists c.args.key.now c.in-Some.list (sym c.in-Some.ensures))) refl
+first_open-requires-clause-there c = subst (λ o. IsSome o) (sym (c.requires.1.lists c.args.key.now c.in-Some.list (sym c.in-Some.ensures))) refl
 
 pub first_open-requires-clause-distinct : goal.first_open-requires-clause-distinct
-first_open-requires-clause-distinct c = subst (λ o. AreDistinct (slots_of o)) (sym (c.requires.1.0.lists c.args.key.now c.in-Some.list (sym c.in-Some.ensures)))
-    (distinct_filter (has_key c.args.store.now c.args.lane c.args.key.now) c.requires.0 c.requires.1.1)
+first_open-requires-clause-distinct c = subst (λ o. AreDistinct (slots_of o)) (sym (c.requires.1.lists c.args.key.now c.in-Some.list (sym c.in-Some.ensures)))
+    (distinct_filter (has_key c.args.store.now c.args.lane c.args.key.now) c.requires.0 c.requires.2)
 
 pub returns-in-None : goal.returns-in-None
 returns-in-None c = λ slots A. sym (ap (λ xs. slice_get xs 0)

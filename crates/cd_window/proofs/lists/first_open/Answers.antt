@@ -16,8 +16,8 @@ passing-init c =
           ∙ ap (filter (still_in_slot c.args.windows.now c.args.side c.args.now c.args.store.now)) (from_first slots);
     }
 
-pub next-requires : goal.next-requires
-next-requires c = record {
+pub next-found-requires : goal.next-found-requires
+next-found-requires c = record {
   list = c.args.list;
   within = in_list (list_at c.args.store.now c.args.lane c.args.list) c.in-Some.slot (c.passing.invariant.among c.in-Some.slot c.in-Some.ensures.is);
 }
@@ -26,16 +26,16 @@ pub passing-preserved : goal.passing-preserved
 passing-preserved c =
     let it = list_at c.args.store.now c.args.lane c.args.list in
     let i = c.passing.invariant.among c.in-Some.slot c.in-Some.ensures.is in
-    let P = passes (still_in_slot c.args.windows.now c.args.side c.args.now c.args.store.now) c.passing.found c.next.result c.in-Some.slot (slots_of it) c.requires.distinct i c.in-Some.ensures.closed c.in-Some.ensures.is
-    (c.next.ensures.next c.args.list (in_list it c.in-Some.slot i)) in
-    record { used = c.next.ensures.used; among = P.among; same = P.same ∙ c.passing.invariant.same }
+    let P = passes (still_in_slot c.args.windows.now c.args.side c.args.now c.args.store.now) c.passing.found c.next-found.result c.in-Some.slot (slots_of it) c.requires.distinct i c.in-Some.ensures.closed c.in-Some.ensures.is
+    (c.next-found.ensures.next c.args.list (in_list it c.in-Some.slot i)) in
+    record { used = c.next-found.ensures.used; among = P.among; same = P.same ∙ c.passing.invariant.same }
 
 pub passing-smaller : goal.passing-smaller
 passing-smaller c =
     let it = list_at c.args.store.now c.args.lane c.args.list in
     let i = c.passing.invariant.among c.in-Some.slot c.in-Some.ensures.is in
-    (passes (still_in_slot c.args.windows.now c.args.side c.args.now c.args.store.now) c.passing.found c.next.result c.in-Some.slot (slots_of it) c.requires.distinct i c.in-Some.ensures.closed c.in-Some.ensures.is
-    (c.next.ensures.next c.args.list (in_list it c.in-Some.slot i))).shorter
+    (passes (still_in_slot c.args.windows.now c.args.side c.args.now c.args.store.now) c.passing.found c.next-found.result c.in-Some.slot (slots_of it) c.requires.distinct i c.in-Some.ensures.closed c.in-Some.ensures.is
+    (c.next-found.ensures.next c.args.list (in_list it c.in-Some.slot i))).shorter
 
 pub returns : goal.returns
 returns c = stops (still_in_slot c.args.windows.now c.args.side c.args.now c.args.store.now) c.passing.found (slots_of (list_at c.args.store.now c.args.lane c.args.list))

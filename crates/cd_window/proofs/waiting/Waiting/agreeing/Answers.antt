@@ -6,13 +6,13 @@ use Rattle.cd_window.proofs.Agreeing.{those_alone, first_whole, first_used, open
 use Rattle.cd_window.proofs.waiting.Waiting.agreeing.Goals as goal
 
 pub first_of-requires : goal.first_of-requires
-first_of-requires c = (slots_in c.args.self.now, (c.requires.listed.primaries, c.requires.listed.distinct))
+first_of-requires c = (slots_in c.args.self.now, c.requires.listed.primaries, c.requires.listed.distinct)
 
 pub first_of-same-requires : goal.first_of-same-requires
-first_of-same-requires c = (slots_in c.args.self.now, (c.requires.listed.exchanges, c.requires.listed.distinct))
+first_of-same-requires c = (slots_in c.args.self.now, c.requires.listed.exchanges, c.requires.listed.distinct)
 
 pub first_of-absent-requires : goal.first_of-absent-requires
-first_of-absent-requires c = (slots_in c.args.self.now, (c.requires.listed.exchanges, c.requires.listed.distinct))
+first_of-absent-requires c = (slots_in c.args.self.now, c.requires.listed.exchanges, c.requires.listed.distinct)
 
 pub earlier-requires-clause-one : goal.earlier-requires-clause-one
 earlier-requires-clause-one c =
