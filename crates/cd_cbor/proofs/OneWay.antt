@@ -52,7 +52,7 @@ reaches_more fed zero p q same x within is = subst (λ t. Reaches fed 1 t (after
 reaches_more fed (suc steps) p q h x within is = (h.0, h.1, h.2, reaches_more fed steps (after p h.0) q h.3 x within is)
 
 -- where each history begins
-start : Place
+abbrev start : Place
 start = record { given = []; now = nothing_open; position = 0; at = 0 }
 
 -- the place of a history
@@ -60,7 +60,7 @@ abbrev place_of : List Event → Open → ℕ → ℕ → Place
 place_of given now position at = record { given = given; now = now; position = position; at = at }
 
 -- it is reached from there
-Reached : List ℕ → Place → Type 0
+abbrev Reached : List ℕ → Place → Type 0
 Reached fed p = (steps : ℕ) × Reaches fed steps start p
 
 leads_reach : (fed : List ℕ) {given : List Event} {now : Open} {position at : ℕ} → Leads fed given now position at → Reached fed (place_of given now position at)
@@ -71,7 +71,7 @@ leads_reach fed (tells given now next position at size e before within is) =
     let b = leads_reach fed before in (suc b.0, reaches_more fed b.0 start (place_of given now position at) b.1 ((Some e, next), size) within is)
 
 -- of two places that are reached from one, the one is reached from the other
-Meets : List ℕ → Place → Place → Type 0
+abbrev Meets : List ℕ → Place → Place → Type 0
 Meets fed q r = ((steps : ℕ) × Reaches fed steps q r) ⊎ ((steps : ℕ) × Reaches fed steps r q)
 
 meets : (fed : List ℕ) (m n : ℕ) (p q r : Place) → Reaches fed m p q → Reaches fed n p r → Meets fed q r
