@@ -1,8 +1,8 @@
 -- Lists by key, when a key gets a list or its list is taken away.
-use Rattle.std.proofs.Common.{◌≡◌, ℕ, true, List, [], ◌∷◌, cond, Option, Some, None, refl, ap, sym, ◌∙◌, subst}
-use Rattle.std.specs.Prelude.{IsSome, slice_get}
-use Rattle.std.specs.Map.{lookup}
-use Rattle.std.proofs.lemmas.Bool.{cond-true}
+use Rattle.std.proofs.Common.{◌≡◌, ℕ, Bool, true, List, [], ◌∷◌, cond, Option, Some, None, refl, ap, sym, ◌∙◌, inl, inr}
+use Rattle.std.specs.Prelude.{slice_get}
+use Rattle.std.specs.Map.{lookup, lookup_key}
+use Rattle.std.proofs.lemmas.Bool.{cases_Bool, cond-true}
 use Rattle.std.proofs.lemmas.Option.{none-some}
 use Rattle.indexmap.specs.IndexMap.{IndexMap}
 use Rattle.cd_chain.specs.Contents.{Contents, list_at, slots_of}
@@ -10,7 +10,7 @@ use Rattle.cd_chain.specs.Calls.{AddsList, DropsList}
 use Rattle.cd_window.specs.declared.key.Key.{Key}
 use Rattle.cd_window.specs.declared.waiter.Waiter.{Waiter}
 use Rattle.cd_window.specs.Keys.{same_key}
-use Rattle.cd_window.specs.Lists.{key_is, has_key, number_of, IsIndexed, IsFilled, no_key, but_key, KeepsRest}
+use Rattle.cd_window.specs.Lists.{key_is, has_key, number_of, IsIndexed, IsFilled, no_key, but_key, KeepsRest, IsEntry}
 use Rattle.cd_window.proofs.Indexing.{same_index, index_more, index_less}
 use Rattle.cd_window.proofs.Filling.{same_filled, fewer_filled, filled_less, filled_more}
 use Rattle.cd_window.proofs.Keying.{same_key_laws, keys_are}
@@ -53,6 +53,23 @@ module _ {S : Type 0} (m m' : IndexMap Key ℕ S) (it mid it' : Contents Waiter)
 
   pub undone_filled : IsFilled it m lane no_key → IsFilled it' m' lane no_key
   undone_filled F = same_filled (number_of m) (list_at it lane) no_key (number_of m') (list_at it' lane) numbers_same (added_dropped it mid it' lane n A D) F
+
+-- a key that is found has the bytes that were looked for
+pub found_same : (key k : Key) (es : List (Key × ℕ)) → lookup_key (same_key key) es ≡ Some k → same_key key k ≡ true
+found_same key k [] h = absurd (none-some k h)
+found_same key k (e ∷ es) h = elim (cases_Bool (same_key key e.0)) [
+  | inl q ↦
+      let f : Some e.0 ≡ Some k = rw q at h in
+      let same : e.0 ≡ k = cc in
+      ap (same_key key) (sym same) ∙ q
+  | inr q ↦ found_same key k es (rw q at h)
+]
+
+-- an index without what stood at a place
+pub gone_at : {S : Type 0} (m m' : IndexMap Key ℕ S) (key : Key) (place list : ℕ) → IsEntry m.entries key place list →
+    ((stored : Key) (n : ℕ) → slice_get m.entries place ≡ Some (stored, n) → (k : Key) → number_of m' k ≡ cond (same_key stored k) None (number_of m k)) →
+    (k : Key) → number_of m' k ≡ cond (same_key key k) None (number_of m k)
+gone_at m m' key place list E h k = h E.stored list E.there k ∙ ap (λ (b : Bool). cond b None (number_of m k)) (sym (same_key_laws.congr key E.stored k E.same))
 
 -- a list that has no first slot is empty
 pub empty_list : (o : Option (List ℕ)) (xs : List ℕ) → o ≡ Some xs → slice_get (slots_of o) 0 ≡ None → o ≡ Some []

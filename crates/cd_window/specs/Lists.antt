@@ -1,5 +1,5 @@
 -- Scaffolding, which only contracts of private functions cite: the lists in which a store has the events that wait.
-use Rattle.std.specs.Prelude.{◌≡◌, ◌<◌, ℕ, Bool, true, false, eqb, nat_le, if◌then◌else◌, List, [], map, length, Option, Some, None, IsSome}
+use Rattle.std.specs.Prelude.{◌≡◌, ◌<◌, ℕ, Bool, true, false, eqb, nat_le, if◌then◌else◌, List, [], map, length, Option, Some, None, IsSome, slice_get}
 use Rattle.std.specs.List.{filter}
 use Rattle.indexmap.specs.IndexMap.{IndexMap, get}
 use Rattle.cd_chain.specs.Cells.{is_in, AreDistinct}
@@ -39,6 +39,12 @@ those it lane k slots = filter (has_key it lane k) slots
 -- the number of the list of a key
 abbrev pub number_of : {S : Type 0} → IndexMap Key ℕ S → Key → Option ℕ
 number_of m k = get same_key m k
+
+-- at this place an index has a key of these bytes, with this number
+pub record IsEntry (entries : List (Key × ℕ)) (key : Key) (place list : ℕ) : Type 0 where
+  pub stored : Key
+  pub same : same_key key stored ≡ true
+  pub there : slice_get entries place ≡ Some (stored, list)
 
 -- the lists of a lane are those of these slots by key, under these numbers
 abbrev pub IsIndexed : {S : Type 0} → Contents Waiter → IndexMap Key ℕ S → ℕ → List ℕ → Type 0

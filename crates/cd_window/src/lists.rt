@@ -1,9 +1,11 @@
-ghost use Rattle.std.specs.Prelude.{◌≡◌, ◌<◌, ◌^◌, ℕ, true, false, List, [], Some, None, IsSome, IfSome, IfOk, OnOk, OnErr, slice_get};
+ghost use Rattle.std.specs.Prelude.{◌≡◌, ◌<◌, ◌^◌, ℕ, true, false, List, [], Some, None, IsSome, IfSome, IfOk, OnOk, OnErr, slice_get, if◌then◌else◌};
 ghost use Rattle.std.specs.List.{filter};
+ghost use Rattle.std.specs.Option.{option_map};
 ghost use Rattle.cd_chain.specs.Cells.{AreDistinct};
 ghost use Rattle.cd_chain.specs.Contents.{value_at, list_at, list_count, slots_of};
 ghost use Rattle.cd_window.specs.Lists.{no_key, but_key, number_of, those, IsIndexed, IsFilled, KeepsRest};
-ghost use Rattle.cd_window.specs.Lists.{still_in_slot, open_of};
+ghost use Rattle.cd_window.specs.Keys.{same_key};
+ghost use Rattle.cd_window.specs.Lists.{still_in_slot, open_of, IsEntry};
 
 use crate::key::{Key, copy_key};
 use crate::stamps::{Stamp, waits_still};
@@ -143,14 +145,39 @@ pub(crate) fn add_list_of(
     }
 }
 
-// Takes the list of a key away.
+// The place of a key in the index, and the number of its list.
+fn place_of(numbers: &IndexMap<Key, u32>, key: &Key) -> Option<(usize, u32)>
+    ensures number { option_map (λ p. p.1) result ≡ number_of numbers.now key.now }
+    ensures entry { IfSome result (λ p. IsEntry numbers.now.entries key.now p.0 p.1) }
+{
+    match numbers.get_full(key) {
+        None => None,
+        Some((place, _stored, list)) => Some((place, *list)),
+    }
+}
+
+// Takes what stands at a place out of the index.
+fn remove_at(numbers: &mut IndexMap<Key, u32>, place: usize)
+    ensures { (stored : Key) (list : ℕ) →
+        slice_get numbers.old.entries place ≡ Some (stored, list) → (k : Key) →
+        number_of numbers.new k ≡ (if same_key stored k then None else number_of numbers.old k) }
+{
+    match numbers.swap_remove_index(place) {
+        None => {}
+        Some(_) => {}
+    }
+}
+
+// Takes the list of a key away, which stands at this place in the index.
 fn drop_list(
     store: &mut Store<Waiter>,
     numbers: &mut IndexMap<Key, u32>,
     lane: u8,
     key: &Key,
+    place: usize,
     list: u32,
 )
+    requires entry { IsEntry numbers.old.entries key.now place list }
     requires number { number_of numbers.old key.now ≡ Some list }
     requires empty { list_at store.old lane list ≡ Some [] }
     requires filled { IsFilled store.old numbers.old lane (but_key key.now) }
@@ -160,7 +187,7 @@ fn drop_list(
     ensures rest { KeepsRest store.old store.new lane }
 {
     store.drop_list(lane, list);
-    numbers.swap_remove(key);
+    remove_at(numbers, place);
 }
 
 // Takes the list of a key away where it has no slots.
@@ -177,10 +204,10 @@ pub(crate) fn drop_list_of(
     ensures filled { IsFilled store.new numbers.new lane no_key }
     ensures rest { KeepsRest store.old store.new lane }
 {
-    match number_of(numbers, key) {
+    match place_of(numbers, key) {
         None => {}
-        Some(list) => match store.first(lane, list) {
-            None => drop_list(store, numbers, lane, key, list),
+        Some((place, list)) => match store.first(lane, list) {
+            None => drop_list(store, numbers, lane, key, place, list),
             Some(_) => {}
         },
     }
