@@ -45,6 +45,7 @@ mod item_reading;
 pub mod laws;
 mod major_type;
 mod nest;
+mod passing;
 mod reader;
 mod string_reading;
 mod values;
