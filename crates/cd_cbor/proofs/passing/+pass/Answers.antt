@@ -4,7 +4,7 @@ use Rattle.cd_cbor.specs.Readings.{times, until_break}
 use Rattle.cd_cbor.specs.Reading.{entry_at, item_at}
 use Rattle.cd_cbor.specs.Ends.{end_of}
 use Rattle.cd_cbor.specs.declared.fault.Why.TheVariants as why
-use Rattle.cd_cbor.proofs.Passing.{pass_more, pass_fault, pass_end, pass_on, pass_wrong, pass_no_byte, pass_stop, pass_none, pass_start, pass_begin, end_value, end_fault, entry_ends, entry_fault, array_ends, map_ends, open_array_ends, open_map_ends}
+use Rattle.cd_cbor.proofs.PassedOver.{pass_more, pass_fault, pass_end, pass_on, pass_wrong, pass_no_byte, pass_stop, pass_none, pass_start, pass_begin, end_value, end_fault, entry_ends, entry_fault, array_ends, map_ends, open_array_ends, open_map_ends}
 use Rattle.cd_cbor.proofs.passing.+pass.Goals as goal
 
 pub pass_items-items-init : goal.pass_items-items-init

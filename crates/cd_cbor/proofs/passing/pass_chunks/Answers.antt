@@ -2,7 +2,7 @@
 use Rattle.std.proofs.Common.{ℕ, ◌+◌, length, refl, arith}
 use Rattle.cd_cbor.specs.Reading.{chunk_at, chunked_string_at}
 use Rattle.cd_cbor.specs.Ends.{end_of}
-use Rattle.cd_cbor.proofs.Passing.{pass_on, pass_wrong, pass_no_byte, pass_stop, pass_none, chunks_begin}
+use Rattle.cd_cbor.proofs.PassedOver.{pass_on, pass_wrong, pass_no_byte, pass_stop, pass_none, chunks_begin}
 use Rattle.cd_cbor.proofs.passing.pass_chunks.Goals as goal
 
 pub chunks-init : goal.chunks-init
