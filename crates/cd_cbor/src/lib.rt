@@ -18,8 +18,9 @@
 //! spelled, no spelling goes on as another, and some bytes spell at most one item.
 //!
 //! `Reader` reads items whose bytes come in pieces, and gives an event for each head (`Event`). For each history of
-//! pieces its answer is the same function of all bytes fed (`specs/Events`, `specs/Following`), and its events and its
-//! faults are those of the items that `decode_one` would read there (`laws::events_follow_items`).
+//! pieces its answer is the same function of all bytes fed (`specs/Events`, `specs/Following`). Its events are those of
+//! the items that `decode_one` would read there, by how each is spelled (`specs/Telling`), and its faults are theirs
+//! (`laws::events_are_the_items`, `laws::events_follow_items`).
 //!
 //! The map of the key 0 with the number 500, and of the key 1 with the text "DNS", has the spelling
 //! `a2 00 19 01 f4 01 63 44 4e 53`:
@@ -45,6 +46,7 @@ mod item_reading;
 pub mod laws;
 mod major_type;
 mod nest;
+mod passing;
 mod reader;
 mod string_reading;
 mod values;
