@@ -16,16 +16,20 @@ use Rattle.cd_pcap.proofs.Going.{packet_at-append, pcap-front}
 open_at : (e : EndState) (c : Capture) → c ≡ ends e → IsWholeOrCut c.end → IsWholeOrCut e
 open_at e c is h = let P : Capture → Type 0 = λ d. IsWholeOrCut d.end in subst P is h
 
-few_at : (c d : Capture) (n : ℕ) → c ≡ d → n < length d.packets * 262160 + 262160 → n < 0 + (length c.packets * 262160 + 262160)
-few_at c d n is h = let P : Capture → Type 0 = λ k. n < 0 + (length k.packets * 262160 + 262160) in subst P (sym is) (omega arith)
+few_at : (c d : Capture) (n : ℕ) → c ≡ d → n < length d.packets * 262160 + 262160 →
+    n < 0 + (length c.packets * 262160 + 262160)
+few_at c d n is h =
+    let P : Capture → Type 0 = λ k. n < 0 + (length k.packets * 262160 + 262160) in subst P (sym is) (omega arith)
 
 -- Records that are not refused have few bytes: each that is whole, and less than one more.
-pub records-few : (form : Form) (link inside at : ℕ) (bytes : List ℕ) → IsWholeOrCut (records form link inside at bytes).end →
+pub records-few : (form : Form) (link inside at : ℕ) (bytes : List ℕ) →
+    IsWholeOrCut (records form link inside at bytes).end →
     length bytes < inside + (length (records form link inside at bytes).packets * 262160 + 262160)
 unfolding records
 records-few form link zero at [] h = omega arith
 records-few form link (suc inside) at [] h = omega arith
-records-few form link (suc inside) at (b ∷ bytes) h = let k = records-few form link inside (at + 1) bytes h in omega arith
+records-few form link (suc inside) at (b ∷ bytes) h =
+    let k = records-few form link inside (at + 1) bytes h in omega arith
 records-few form link zero at (b ∷ bytes) h =
     elim (cases_lt (length (b ∷ bytes)) 16) [
       | inl short ↦ omega arith
@@ -43,7 +47,8 @@ records-few form link zero at (b ∷ bytes) h =
       ]
     ]
 
-pub pcap-few : (bytes : List ℕ) → IsWholeOrCut (pcap bytes).end → length bytes < 24 + (length (pcap bytes).packets * 262160 + 262160)
+pub pcap-few : (bytes : List ℕ) → IsWholeOrCut (pcap bytes).end →
+    length bytes < 24 + (length (pcap bytes).packets * 262160 + 262160)
 pcap-few bytes h =
     elim (cases_lt (length bytes) 24) [
       | inl short ↦ omega arith
@@ -61,7 +66,8 @@ pcap-few bytes h =
       ]
     ]
 
-pub records-grow : (form : Form) (link inside at : ℕ) (xs more : List ℕ) → Grows (records form link inside at xs) (records form link inside at (xs ++ more))
+pub records-grow : (form : Form) (link inside at : ℕ) (xs more : List ℕ) →
+    Grows (records form link inside at xs) (records form link inside at (xs ++ more))
 unfolding records
 records-grow form link zero at [] more = grows_whole _
 records-grow form link (suc inside) at [] more = grows_cut _
@@ -71,21 +77,24 @@ records-grow form link zero at (b ∷ xs) more =
     elim (cases_lt (length (b ∷ xs)) 16) [
       | inl short ↦ grows_at _ _ _ _ (records-short form link at (b ∷ xs) (omega arith) short) refl (grows_cut _)
       | inr long ↦
-          let same : captured_length form (b ∷ (xs ++ more)) ≡ captured_length form (b ∷ xs) = number32_at-append form.order 8 (b ∷ xs) more (omega arith) in
+          let same : captured_length form (b ∷ (xs ++ more)) ≡ captured_length form (b ∷ xs) =
+          number32_at-append form.order 8 (b ∷ xs) more (omega arith) in
           elim (cases_lt 262144 (captured_length form (b ∷ xs))) [
             | inl large ↦ grows_at _ _ _ _ (records-refused form link at (b ∷ xs) long large)
                 (records-refused form link at (b ∷ (xs ++ more)) (omega arith) (omega arith)) (grows_refused at Record)
             | inr small ↦ elim (cases_lt (length (b ∷ xs)) (16 + captured_length form (b ∷ xs))) [
               | inl cut ↦ grows_at _ _ _ _ (records-cut form link at (b ∷ xs) long small cut) refl (grows_cut _)
               | inr whole ↦
-                  let first : packet_at form link at (b ∷ (xs ++ more)) ≡ packet_at form link at (b ∷ xs) = packet_at-append form link at (b ∷ xs) more whole in
+                  let first : packet_at form link at (b ∷ (xs ++ more)) ≡ packet_at form link at (b ∷ xs) =
+                  packet_at-append form link at (b ∷ xs) more whole in
                   let rest : ℕ → Capture = λ n. records form link (15 + n) (at + 1) (xs ++ more) in
                   let later : records form link 0 at (b ∷ (xs ++ more)) ≡ after (packet_at form link at (b ∷ xs) ∷ []) (rest (captured_length form (b ∷ xs))) =
                   records-first form link at b (xs ++ more) (omega arith) (omega arith) (omega arith)
                   ∙ ap (λ p. after (p ∷ []) (rest (captured_length form (b ∷ (xs ++ more))))) first
                   ∙ ap (λ n. after (packet_at form link at (b ∷ xs) ∷ []) (rest n)) same in
                   grows_at _ _ _ _ (records-first form link at b xs long small whole) later
-                  (grows_after (packet_at form link at (b ∷ xs)) _ _ (records-grow form link (15 + captured_length form (b ∷ xs)) (at + 1) xs more))
+                  (grows_after (packet_at form link at (b ∷ xs)) _ _
+                  (records-grow form link (15 + captured_length form (b ∷ xs)) (at + 1) xs more))
             ]
           ]
     ]
@@ -96,15 +105,19 @@ pcap-grow xs more four =
     let len : length (xs ++ more) ≡ length xs + length more = length-append xs more in
     let magic_stays : form_of (xs ++ more) ≡ form_of xs = form_of-append xs more four in
     elim (cases_form xs) [
-      | inl none ↦ grows_at _ _ _ _ (pcap-magic xs none) (pcap-magic (xs ++ more) (magic_stays ∙ none)) (grows_refused 0 Magic)
+      | inl none ↦
+          grows_at _ _ _ _ (pcap-magic xs none) (pcap-magic (xs ++ more) (magic_stays ∙ none)) (grows_refused 0 Magic)
       | inr (form, magic) ↦ elim (cases_lt (length xs) 24) [
         | inl short ↦ grows_at _ _ _ _ (pcap-short form xs magic short) refl (grows_cut _)
         | inr long ↦
-            let version_stays : version form (xs ++ more) ≡ version form xs = number16_at-append form.order 4 xs more (omega arith) in
+            let version_stays : version form (xs ++ more) ≡ version form xs =
+            number16_at-append form.order 4 xs more (omega arith) in
             elim (cases_eq (version form xs) 2) [
               | inr three ↦ grows_at _ _ _ _ (pcap-version form xs magic long three)
-                  (pcap-version form (xs ++ more) (magic_stays ∙ magic) (omega arith) (λ e. three (sym version_stays ∙ e))) (grows_refused 0 Version)
-              | inl two ↦ grows_at _ _ _ _ (pcap-records form xs magic long two) (pcap-front form xs more magic long two)
+                  (pcap-version form (xs ++ more) (magic_stays ∙ magic) (omega arith)
+                  (λ e. three (sym version_stays ∙ e))) (grows_refused 0 Version)
+              | inl two ↦
+                  grows_at _ _ _ _ (pcap-records form xs magic long two) (pcap-front form xs more magic long two)
                   (records-grow form (link_type form xs) 0 24 (drop 24 xs) more)
             ]
       ]

@@ -51,14 +51,17 @@ word_at order at bytes all within =
 
 -- a number of four bytes has 32 bits
 word_small : (order : Order) (at : ℕ) (bytes : List ℕ) → AreBytes bytes → number32_at order at bytes < 2 ^ 32
-word_small order at bytes all = omega (arith, number32_at-drop order at bytes, number32-small order (drop at bytes) (bytes_from at bytes all))
+word_small order at bytes all =
+    omega (arith, number32_at-drop order at bytes, number32-small order (drop at bytes) (bytes_from at bytes all))
 
 half_small : (order : Order) (at : ℕ) (bytes : List ℕ) → AreBytes bytes → number16_at order at bytes < 2 ^ 16
-half_small order at bytes all = omega (arith, number16_at-drop order at bytes, number16-small order (drop at bytes) (bytes_from at bytes all))
+half_small order at bytes all =
+    omega (arith, number16_at-drop order at bytes, number16-small order (drop at bytes) (bytes_from at bytes all))
 
 -- four numbers at the front, and what follows them
 four_at : (order : Order) (bytes : List ℕ) → AreBytes bytes → 16 ≤ length bytes →
-    bytes ≡ four order (number32_at order 0 bytes) (number32_at order 4 bytes) (number32_at order 8 bytes) (number32_at order 12 bytes) (drop 16 bytes)
+    bytes ≡ four order (number32_at order 0 bytes) (number32_at order 4 bytes) (number32_at order 8 bytes)
+    (number32_at order 12 bytes) (drop 16 bytes)
 four_at order bytes all long =
     word_at order 0 bytes all (omega arith)
     ∙ ap (λ t. bytes_of w32 order (number32_at order 0 bytes) ++ t)
@@ -68,7 +71,8 @@ four_at order bytes all long =
     ∙ ap (λ t. bytes_of w32 order (number32_at order 8 bytes) ++ t) (word_at order 12 bytes all (omega arith))))
 
 -- sixteen bytes are a record's header
-begins_at : (form : Form) (bytes : List ℕ) → AreBytes bytes → 16 ≤ length bytes → BeginsRecord form (captured_length form bytes) bytes
+begins_at : (form : Form) (bytes : List ℕ) → AreBytes bytes → 16 ≤ length bytes →
+    BeginsRecord form (captured_length form bytes) bytes
 begins_at form bytes all long =
     let word : ℕ → ℕ = λ at. number32_at form.order at bytes in
     record {
@@ -77,7 +81,8 @@ begins_at form bytes all long =
       original = word 12;
       more = drop 16 bytes;
       fits = word_small form.order 8 bytes all;
-      split = four_at form.order bytes all long ∙ sym (header_four form (word 0) (word 4) (word 8) (word 12) (drop 16 bytes));
+      split = four_at form.order bytes all long
+          ∙ sym (header_four form (word 0) (word 4) (word 8) (word 12) (drop 16 bytes));
     }
 
 -- the record at the front
@@ -92,7 +97,8 @@ record_in form bytes = record {
 -- it has as many captured bytes as it says
 record_size : (form : Form) (bytes : List ℕ) → 16 + captured_length form bytes ≤ length bytes →
     length (take (captured_length form bytes) (drop 16 bytes)) ≡ captured_length form bytes
-record_size form bytes whole = length-take-le (captured_length form bytes) (drop 16 bytes) (omega (arith, length-drop 16 bytes))
+record_size form bytes whole =
+    length-take-le (captured_length form bytes) (drop 16 bytes) (omega (arith, length-drop 16 bytes))
 
 -- a whole record is spelled, and what follows it
 record_spelled : (form : Form) (bytes : List ℕ) → AreBytes bytes → 16 + captured_length form bytes ≤ length bytes →
@@ -110,18 +116,22 @@ record_spelled form bytes all whole =
     ∙ sym (spelled_four form (record_in form bytes) rest)
 
 -- nothing but a rest
-stops : (form : Form) (link at : ℕ) (bytes : List ℕ) (e : EndState) → records form link 0 at bytes ≡ ends e → IsRest form at bytes e →
+stops : (form : Form) (link at : ℕ) (bytes : List ℕ) (e : EndState) → records form link 0 at bytes ≡ ends e →
+    IsRest form at bytes e →
     SpellsRecords form link at bytes (records form link 0 at bytes)
 stops form link at bytes e is h =
     let P : Capture → Type 0 = λ c. SpellsRecords form link at bytes c in
     let Q : ℕ → Type 0 = λ n. IsRest form n bytes e in
     let none : at ≡ at + 0 = omega arith in
-    let rest : P (ends e) = record { raws = []; fit = tt; rest = bytes; split = refl; packets = refl; end = subst Q none h } in
+    let rest : P (ends e) =
+    record { raws = []; fit = tt; rest = bytes; split = refl; packets = refl; end = subst Q none h } in
     subst P (sym is) rest
 
 -- one more record in front
-one_more : (form : Form) (link at : ℕ) (bytes : List ℕ) (c : Capture) → AreBytes bytes → captured_length form bytes ≤ 262144 →
-    16 + captured_length form bytes ≤ length bytes → SpellsRecords form link (at + (16 + captured_length form bytes)) (drop (16 + captured_length form bytes) bytes) c →
+one_more : (form : Form) (link at : ℕ) (bytes : List ℕ) (c : Capture) → AreBytes bytes →
+    captured_length form bytes ≤ 262144 →
+    16 + captured_length form bytes ≤ length bytes → SpellsRecords form link (at + (16 + captured_length form bytes))
+    (drop (16 + captured_length form bytes) bytes) c →
     SpellsRecords form link at bytes (after (packet_at form link at bytes ∷ []) c)
 one_more form link at bytes c all small whole s =
     let n : ℕ = captured_length form bytes in
@@ -144,7 +154,8 @@ one_more form link at bytes c all small whole s =
       rest = s.rest;
       split = record_spelled form bytes all whole ∙ ap (λ t. spelling_of form r ++ t) s.split
           ∙ sym (append_assoc (spelling_of form r) (spellings form s.raws) s.rest);
-      packets = ap (λ ps. packet_at form link at bytes ∷ ps) (s.packets ∙ ap (λ k. packets_of form link (at + (16 + k)) s.raws) (sym size));
+      packets = ap (λ ps. packet_at form link at bytes ∷ ps)
+          (s.packets ∙ ap (λ k. packets_of form link (at + (16 + k)) s.raws) (sym size));
       end = subst P far s.end;
     }
 
@@ -156,29 +167,40 @@ records_from zero form link at (b ∷ xs) all within = absurd (omega arith)
 records_from (suc most) form link at (b ∷ xs) all within =
     let n : ℕ = captured_length form (b ∷ xs) in
     elim (cases_lt (length (b ∷ xs)) 16) [
-      | inl short ↦ stops form link at (b ∷ xs) Cut (records-short form link at (b ∷ xs) (omega arith) short) (inl (omega arith, short))
+      | inl short ↦
+          stops form link at (b ∷ xs) Cut (records-short form link at (b ∷ xs) (omega arith) short)
+          (inl (omega arith, short))
       | inr long ↦ elim (cases_lt 262144 n) [
-        | inl large ↦ stops form link at (b ∷ xs) (Bad (record { at = at; why = Record })) (records-refused form link at (b ∷ xs) long large)
+        | inl large ↦
+            stops form link at (b ∷ xs) (Bad (record { at = at; why = Record }))
+            (records-refused form link at (b ∷ xs) long large)
             (refl, (n, large, begins_at form (b ∷ xs) all long))
         | inr small ↦ elim (cases_lt (length (b ∷ xs)) (16 + n)) [
-          | inl cut ↦ stops form link at (b ∷ xs) Cut (records-cut form link at (b ∷ xs) long small cut) (inr (n, small, begins_at form (b ∷ xs) all long, cut))
+          | inl cut ↦
+              stops form link at (b ∷ xs) Cut (records-cut form link at (b ∷ xs) long small cut)
+              (inr (n, small, begins_at form (b ∷ xs) all long, cut))
           | inr whole ↦
               let P : Capture → Type 0 = λ c. SpellsRecords form link at (b ∷ xs) c in
               let rest : List ℕ = drop (16 + n) (b ∷ xs) in
-              let others = records_from most form link (at + (16 + n)) rest (bytes_from (16 + n) (b ∷ xs) all) (omega (arith, length-drop (16 + n) (b ∷ xs))) in
-              subst P (sym (records-whole form link at (b ∷ xs) long small whole)) (one_more form link at (b ∷ xs) _ all small whole others)
+              let others =
+              records_from most form link (at + (16 + n)) rest (bytes_from (16 + n) (b ∷ xs) all)
+              (omega (arith, length-drop (16 + n) (b ∷ xs))) in
+              subst P (sym (records-whole form link at (b ∷ xs) long small whole))
+              (one_more form link at (b ∷ xs) _ all small whole others)
         ]
       ]
     ]
 
 -- a header of version 2, and what follows it
-headed_at : (form : Form) (bytes : List ℕ) → AreBytes bytes → bytes ≡ magic form ++ drop 4 bytes → 24 ≤ length bytes → version form bytes ≡ 2 →
+headed_at : (form : Form) (bytes : List ℕ) → AreBytes bytes → bytes ≡ magic form ++ drop 4 bytes → 24 ≤ length bytes →
+    version form bytes ≡ 2 →
     SpellsAfterHeader form bytes (pcap_in form bytes)
 headed_at form bytes all front long two =
     let word : ℕ = number32_at form.order 20 bytes in
     let unread : List ℕ = take 14 (drop 6 bytes) in
     let raw : RawHeader = record { unread = unread; link_word = word } in
-    let last : drop 20 bytes ≡ bytes_of w32 form.order word ++ drop 24 bytes = word_at form.order 20 bytes all (omega arith) in
+    let last : drop 20 bytes ≡ bytes_of w32 form.order word ++ drop 24 bytes =
+    word_at form.order 20 bytes all (omega arith) in
     let middle : drop 6 bytes ≡ unread ++ (bytes_of w32 form.order word ++ drop 24 bytes) =
     sym (take-append-drop 14 (drop 6 bytes)) ∙ ap (λ t. unread ++ t) (drop-drop 14 6 bytes ∙ last) in
     let half : drop 4 bytes ≡ bytes_of w16 form.order 2 ++ drop 6 bytes =
@@ -186,19 +208,33 @@ headed_at form bytes all front long two =
     let P : Capture → Type 0 = λ c. SpellsRecords form (word % 0x10000) 24 (drop 24 bytes) c in
     record {
       raw = raw;
-      fits = record { unread = length-take-le 14 (drop 6 bytes) (omega (arith, length-drop 6 bytes)); link_word = word_small form.order 20 bytes all };
+      fits = record {
+        unread = length-take-le 14 (drop 6 bytes) (omega (arith, length-drop 6 bytes));
+        link_word = word_small form.order 20 bytes all;
+      };
       more = drop 24 bytes;
       split = front ∙ ap (λ t. magic form ++ t) (half ∙ ap (λ t. bytes_of w16 form.order 2 ++ t) middle)
-          ∙ sym (header_parts form raw (drop 24 bytes) ∙ header_version form raw (bytes_of w32 form.order word ++ drop 24 bytes));
+          ∙ sym (header_parts form raw (drop 24 bytes)
+          ∙ header_version form raw (bytes_of w32 form.order word ++ drop 24 bytes));
       records = subst P (sym (pcap_in-records form bytes long two))
-          (records_from (length (drop 24 bytes)) form (word % 0x10000) 24 (drop 24 bytes) (bytes_from 24 bytes all) (omega arith));
+          (records_from (length (drop 24 bytes)) form (word % 0x10000) 24 (drop 24 bytes) (bytes_from 24 bytes all)
+          (omega arith));
     }
 
 -- what is read after a magic
-read_in : (form : Form) (bytes : List ℕ) → AreBytes bytes → bytes ≡ magic form ++ drop 4 bytes → SpellsIn form bytes (pcap_in form bytes)
+read_in : (form : Form) (bytes : List ℕ) → AreBytes bytes → bytes ≡ magic form ++ drop 4 bytes →
+    SpellsIn form bytes (pcap_in form bytes)
 read_in form bytes all front =
     elim (cases_lt (length bytes) 24) [
-      | inl short ↦ inr (inl (record { more = drop 4 bytes; few = omega (arith, length-drop 4 bytes); split = front }, pcap_in-short form bytes short))
+      | inl short ↦
+          inr (inl (
+            record {
+              more = drop 4 bytes;
+              few = omega (arith, length-drop 4 bytes);
+              split = front;
+            },
+            pcap_in-short form bytes short,
+          ))
       | inr long ↦ elim (cases_eq (version form bytes) 2) [
         | inl two ↦ inl (headed_at form bytes all front long two)
         | inr other ↦ inr (inr (

@@ -17,36 +17,58 @@ records-inside form link (suc k) at (b ∷ bytes) h =
     let e : at + 1 + k ≡ at + suc k = omega arith in
     records-inside form link k (at + 1) bytes (omega arith) ∙ ap (λ n. records form link 0 n (drop k bytes)) e
 
-pub records-none : (form : Form) (link at : ℕ) (bytes : List ℕ) → length bytes ≡ 0 → records form link 0 at bytes ≡ ends Whole
+pub records-none : (form : Form) (link at : ℕ) (bytes : List ℕ) → length bytes ≡ 0 →
+    records form link 0 at bytes ≡ ends Whole
 unfolding records
 records-none form link at [] h = refl
 records-none form link at (b ∷ bytes) h = absurd (omega arith)
 
-pub records-short : (form : Form) (link at : ℕ) (bytes : List ℕ) → 0 < length bytes → length bytes < 16 → records form link 0 at bytes ≡ ends Cut
+pub records-short : (form : Form) (link at : ℕ) (bytes : List ℕ) → 0 < length bytes → length bytes < 16 →
+    records form link 0 at bytes ≡ ends Cut
 unfolding records
 records-short form link at [] h k = absurd (omega arith)
 records-short form link at (b ∷ bytes) h k = rw (lt-ltb (length (b ∷ bytes)) 16 k) refl
 
-pub records-refused : (form : Form) (link at : ℕ) (bytes : List ℕ) → 16 ≤ length bytes → 262144 < captured_length form bytes → records form link 0 at bytes ≡ refused_capture at Record
+pub records-refused : (form : Form) (link at : ℕ) (bytes : List ℕ) → 16 ≤ length bytes →
+    262144 < captured_length form bytes → records form link 0 at bytes ≡ refused_capture at Record
 unfolding records
 records-refused form link at [] h k = absurd (omega arith)
-records-refused form link at (b ∷ bytes) h k = rw (le-ltb (length (b ∷ bytes)) 16 h, lt-ltb 262144 (captured_length form (b ∷ bytes)) k) refl
+records-refused form link at (b ∷ bytes) h k =
+    rw (le-ltb (length (b ∷ bytes)) 16 h, lt-ltb 262144 (captured_length form (b ∷ bytes)) k) refl
 
-pub records-cut : (form : Form) (link at : ℕ) (bytes : List ℕ) → 16 ≤ length bytes → captured_length form bytes ≤ 262144 → length bytes < 16 + captured_length form bytes → records form link 0 at bytes ≡ ends Cut
+pub records-cut : (form : Form) (link at : ℕ) (bytes : List ℕ) → 16 ≤ length bytes →
+    captured_length form bytes ≤ 262144 → length bytes < 16 + captured_length form bytes →
+    records form link 0 at bytes ≡ ends Cut
 unfolding records
 records-cut form link at [] h k m = absurd (omega arith)
 records-cut form link at (b ∷ bytes) h k m =
-    rw (le-ltb (length (b ∷ bytes)) 16 h, le-ltb 262144 (captured_length form (b ∷ bytes)) k, lt-ltb (length (b ∷ bytes)) (16 + captured_length form (b ∷ bytes)) m) refl
+    rw (
+      le-ltb (length (b ∷ bytes)) 16 h,
+      le-ltb 262144 (captured_length form (b ∷ bytes)) k,
+      lt-ltb
+          (length (b ∷ bytes)) (16 + captured_length form (b ∷ bytes)) m,
+    ) refl
 
 -- a whole record, before what is read from the next byte on
-pub records-first : (form : Form) (link at b : ℕ) (bytes : List ℕ) → 16 ≤ length (b ∷ bytes) → captured_length form (b ∷ bytes) ≤ 262144 → 16 + captured_length form (b ∷ bytes) ≤ length (b ∷ bytes) →
-    records form link 0 at (b ∷ bytes) ≡ after (packet_at form link at (b ∷ bytes) ∷ []) (records form link (15 + captured_length form (b ∷ bytes)) (at + 1) bytes)
+pub records-first : (form : Form) (link at b : ℕ) (bytes : List ℕ) → 16 ≤ length (b ∷ bytes) →
+    captured_length form (b ∷ bytes) ≤ 262144 → 16 + captured_length form (b ∷ bytes) ≤ length (b ∷ bytes) →
+    records form link 0 at (b ∷ bytes)
+    ≡ after (packet_at form link at (b ∷ bytes) ∷ []) (records form link (15 + captured_length form (b ∷ bytes))
+    (at + 1) bytes)
 unfolding records
 records-first form link at b bytes h k m =
-    rw (le-ltb (length (b ∷ bytes)) 16 h, le-ltb 262144 (captured_length form (b ∷ bytes)) k, le-ltb (length (b ∷ bytes)) (16 + captured_length form (b ∷ bytes)) m) refl
+    rw (
+      le-ltb (length (b ∷ bytes)) 16 h,
+      le-ltb 262144 (captured_length form (b ∷ bytes)) k,
+      le-ltb
+          (length (b ∷ bytes)) (16 + captured_length form (b ∷ bytes)) m,
+    ) refl
 
-pub records-whole : (form : Form) (link at : ℕ) (bytes : List ℕ) → 16 ≤ length bytes → captured_length form bytes ≤ 262144 → 16 + captured_length form bytes ≤ length bytes →
-    records form link 0 at bytes ≡ after (packet_at form link at bytes ∷ []) (records form link 0 (at + (16 + captured_length form bytes)) (drop (16 + captured_length form bytes) bytes))
+pub records-whole : (form : Form) (link at : ℕ) (bytes : List ℕ) → 16 ≤ length bytes →
+    captured_length form bytes ≤ 262144 → 16 + captured_length form bytes ≤ length bytes →
+    records form link 0 at bytes
+    ≡ after (packet_at form link at bytes ∷ []) (records form link 0 (at + (16 + captured_length form bytes))
+    (drop (16 + captured_length form bytes) bytes))
 records-whole form link at [] h k m = absurd (omega arith)
 records-whole form link at (b ∷ bytes) h k m =
     let n : ℕ = captured_length form (b ∷ bytes) in
@@ -54,7 +76,8 @@ records-whole form link at (b ∷ bytes) h k m =
     let place : at + 1 + (15 + n) ≡ at + (16 + n) = omega arith in
     let size : suc (15 + n) ≡ 16 + n = omega arith in
     let next : records form link (15 + n) (at + 1) bytes ≡ records form link 0 (at + (16 + n)) (drop (16 + n) (b ∷ bytes)) =
-    inner ∙ ap (λ i. records form link 0 i (drop (15 + n) bytes)) place ∙ ap (λ i. records form link 0 (at + (16 + n)) (drop i (b ∷ bytes))) size in
+    inner ∙ ap (λ i. records form link 0 i (drop (15 + n) bytes)) place
+    ∙ ap (λ i. records form link 0 (at + (16 + n)) (drop i (b ∷ bytes))) size in
     records-first form link at b bytes h k m ∙ ap (λ rest. after (packet_at form link at (b ∷ bytes) ∷ []) rest) next
 
 pub ruleset record_laws = (records-none, records-short, records-refused, records-cut, records-whole)
@@ -65,7 +88,8 @@ unfolding pcap_in
 pcap_in-short form bytes h = rw (lt-ltb (length bytes) 24 h) refl
 
 -- another version
-pub pcap_in-version : (form : Form) (bytes : List ℕ) → 24 ≤ length bytes → (version form bytes ≡ 2 → ⊥) → pcap_in form bytes ≡ refused_capture 0 Version
+pub pcap_in-version : (form : Form) (bytes : List ℕ) → 24 ≤ length bytes → (version form bytes ≡ 2 → ⊥) →
+    pcap_in form bytes ≡ refused_capture 0 Version
 unfolding pcap_in
 pcap_in-version form bytes h other = rw (le-ltb (length bytes) 24 h, ne_eqb (version form bytes) 2 other) refl
 
@@ -87,10 +111,12 @@ pcap-form form bytes magic = rw magic refl
 pub pcap-short : (form : Form) (bytes : List ℕ) → form_of bytes ≡ Some form → length bytes < 24 → pcap bytes ≡ ends Cut
 pcap-short form bytes magic h = pcap-form form bytes magic ∙ pcap_in-short form bytes h
 
-pub pcap-version : (form : Form) (bytes : List ℕ) → form_of bytes ≡ Some form → 24 ≤ length bytes → (version form bytes ≡ 2 → ⊥) → pcap bytes ≡ refused_capture 0 Version
+pub pcap-version : (form : Form) (bytes : List ℕ) → form_of bytes ≡ Some form → 24 ≤ length bytes →
+    (version form bytes ≡ 2 → ⊥) → pcap bytes ≡ refused_capture 0 Version
 pcap-version form bytes magic h other = pcap-form form bytes magic ∙ pcap_in-version form bytes h other
 
-pub pcap-records : (form : Form) (bytes : List ℕ) → form_of bytes ≡ Some form → 24 ≤ length bytes → version form bytes ≡ 2 →
+pub pcap-records : (form : Form) (bytes : List ℕ) → form_of bytes ≡ Some form → 24 ≤ length bytes →
+    version form bytes ≡ 2 →
     pcap bytes ≡ records form (link_type form bytes) 0 24 (drop 24 bytes)
 pcap-records form bytes magic h two = pcap-form form bytes magic ∙ pcap_in-records form bytes h two
 

@@ -27,7 +27,8 @@ refusal_told Cut bad h = absurd cc
 refusal_told (Bad b) bad h = cc
 
 -- a refused place is told only where there are four bytes
-refusal_chosen : (few : Bool) (e : EndState) (bad : BadCapture) → cond few None (refusal_in e) ≡ Some bad → (few ≡ false) × (e ≡ Bad bad)
+refusal_chosen : (few : Bool) (e : EndState) (bad : BadCapture) → cond few None (refusal_in e) ≡ Some bad →
+    (few ≡ false) × (e ≡ Bad bad)
 refusal_chosen true e bad h = absurd cc
 refusal_chosen false e bad h = (refl, refusal_told e bad h)
 
@@ -37,7 +38,8 @@ unfolding refusal_of
 refusal-many bytes many = rw (le-ltb (length bytes) 4 many) refl
 
 -- a refused place is told by four bytes, and is the end of the capture
-pub refusal-end : (bytes : List ℕ) (bad : BadCapture) → refusal_of bytes ≡ Some bad → (4 ≤ length bytes) × ((pcap bytes).end ≡ Bad bad)
+pub refusal-end : (bytes : List ℕ) (bad : BadCapture) → refusal_of bytes ≡ Some bad →
+    (4 ≤ length bytes) × ((pcap bytes).end ≡ Bad bad)
 unfolding refusal_of
 refusal-end bytes bad h =
     let k = refusal_chosen (nat_lt (length bytes) 4) (pcap bytes).end bad h in
@@ -65,13 +67,20 @@ record HasBefore (form : Form) (link inside at : ℕ) (bytes : List ℕ) (bad : 
   pub packets : (records form link inside at (take size bytes)).packets ≡ (records form link inside at bytes).packets
 
 -- the records before a refused place have all packets
-records-before : (form : Form) (link inside at : ℕ) (bytes : List ℕ) (bad : BadCapture) → (records form link inside at bytes).end ≡ Bad bad → HasBefore form link inside at bytes bad
+records-before : (form : Form) (link inside at : ℕ) (bytes : List ℕ) (bad : BadCapture) →
+    (records form link inside at bytes).end ≡ Bad bad → HasBefore form link inside at bytes bad
 unfolding records
 records-before form link zero at [] bad h = absurd cc
 records-before form link (suc inside) at [] bad h = absurd cc
 records-before form link (suc inside) at (b ∷ xs) bad h =
     let k = records-before form link inside (at + 1) xs bad h in
-    record { size = suc k.size; place = omega (arith, k.place); least = omega (arith, k.least); within = omega (arith, k.within); packets = k.packets }
+    record {
+      size = suc k.size;
+      place = omega (arith, k.place);
+      least = omega (arith, k.least);
+      within = omega (arith, k.within);
+      packets = k.packets;
+    }
 records-before form link zero at (b ∷ xs) bad h =
     elim (cases_lt (length (b ∷ xs)) 16) [
       | inl short ↦ let e = end_at _ _ _ (records-short form link at (b ∷ xs) (omega arith) short) h in absurd cc
@@ -80,7 +89,13 @@ records-before form link zero at (b ∷ xs) bad h =
             let e = records-refused form link at (b ∷ xs) long large in
             let f : Bad (record { at = at; why = Record }) ≡ Bad bad = end_at _ _ _ e h in
             let is : at ≡ bad.at = place_told _ _ f in
-            record { size = 0; place = omega arith; least = omega arith; within = omega arith; packets = sym (ap (λ (c : Capture). c.packets) e) }
+            record {
+              size = 0;
+              place = omega arith;
+              least = omega arith;
+              within = omega arith;
+              packets = sym (ap (λ (c : Capture). c.packets) e);
+            }
         | inr small ↦ elim (cases_lt (length (b ∷ xs)) (16 + captured_length form (b ∷ xs))) [
           | inl cut ↦ let e = end_at _ _ _ (records-cut form link at (b ∷ xs) long small cut) h in absurd cc
           | inr whole ↦
@@ -89,18 +104,22 @@ records-before form link zero at (b ∷ xs) bad h =
               let k = records-before form link (15 + n) (at + 1) xs bad (end_at _ _ _ e h) in
               let front : List ℕ = b ∷ take k.size xs in
               let size : length (take k.size xs) ≡ k.size = length-take-le k.size xs k.within in
-              let same : captured_length form front ≡ n = number32_at-take form.order 8 (suc k.size) (b ∷ xs) (omega (arith, k.least)) (omega (arith, k.within)) in
+              let same : captured_length form front ≡ n =
+              number32_at-take form.order 8 (suc k.size) (b ∷ xs) (omega (arith, k.least)) (omega (arith, k.within)) in
               let first : packet_at form link at (b ∷ xs) ≡ packet_at form link at front =
-              ap (λ t. packet_at form link at (b ∷ t)) (sym (take-append-drop k.size xs)) ∙ packet_at-append form link at front (drop k.size xs) (omega (arith, k.least)) in
+              ap (λ t. packet_at form link at (b ∷ t)) (sym (take-append-drop k.size xs))
+              ∙ packet_at-append form link at front (drop k.size xs) (omega (arith, k.least)) in
               let f : records form link 0 at front ≡ after (packet_at form link at front ∷ []) (records form link (15 + captured_length form front) (at + 1) (take k.size xs)) =
-              records-first form link at b (take k.size xs) (omega (arith, k.least)) (omega arith) (omega (arith, k.least)) in
+              records-first form link at b (take k.size xs) (omega (arith, k.least)) (omega arith)
+              (omega (arith, k.least)) in
               record {
                 size = suc k.size;
                 place = omega (arith, k.place);
                 least = omega arith;
                 within = omega (arith, k.within);
                 packets = ap (λ (c : Capture). c.packets) f
-                    ∙ ap (λ m. packet_at form link at front ∷ (records form link (15 + m) (at + 1) (take k.size xs)).packets) same
+                    ∙ ap (λ m. packet_at form link at front ∷
+                    (records form link (15 + m) (at + 1) (take k.size xs)).packets) same
                     ∙ ap (λ ps. packet_at form link at front ∷ ps) k.packets
                     ∙ ap (λ p. p ∷ (records form link (15 + n) (at + 1) xs).packets) (sym first)
                     ∙ sym (ap (λ (c : Capture). c.packets) e);
@@ -110,9 +129,11 @@ records-before form link zero at (b ∷ xs) bad h =
     ]
 
 -- no packet stands before a refused place at the start
-none_before : (bytes : List ℕ) (bad : BadCapture) (c : Capture) → pcap bytes ≡ c → c.packets ≡ [] → bad.at ≡ 0 → (pcap (take bad.at bytes)).packets ≡ (pcap bytes).packets
+none_before : (bytes : List ℕ) (bad : BadCapture) (c : Capture) → pcap bytes ≡ c → c.packets ≡ [] → bad.at ≡ 0 →
+    (pcap (take bad.at bytes)).packets ≡ (pcap bytes).packets
 none_before bytes bad c is none start =
-    ap (λ k. (pcap (take k bytes)).packets) start ∙ ap (λ (d : Capture). d.packets) pcap-none ∙ sym none ∙ sym (ap (λ (d : Capture). d.packets) is)
+    ap (λ k. (pcap (take k bytes)).packets) start ∙ ap (λ (d : Capture). d.packets) pcap-none ∙ sym none
+    ∙ sym (ap (λ (d : Capture). d.packets) is)
 
 -- the bytes before a refused place have all packets
 pub packets_before : PacketsStandBefore
@@ -133,7 +154,8 @@ packets_before bytes bad h =
               let e = pcap-records form bytes magic long two in
               let link : ℕ = link_type form bytes in
               let k = records-before form link 0 24 (drop 24 bytes) bad (end_at _ _ _ e h) in
-              let header : HasHeader form link bytes = record { magic = magic; long = long; version = two; type = refl } in
+              let header : HasHeader form link bytes =
+              record { magic = magic; long = long; version = two; type = refl } in
               ap (λ n. (pcap (take n bytes)).packets) k.place
               ∙ ap (λ t. (pcap t).packets) (take-add 24 k.size bytes)
               ∙ ap (λ (c : Capture). c.packets) (pcap-header form link bytes (take k.size (drop 24 bytes)) header)
@@ -150,4 +172,5 @@ none_chosen false o h = h refl
 -- where the end is no refused place, there is none
 pub refusal-none : (bytes : List ℕ) → (4 ≤ length bytes → refusal_in (pcap bytes).end ≡ None) → refusal_of bytes ≡ None
 unfolding refusal_of
-refusal-none bytes h = none_chosen (nat_lt (length bytes) 4) (refusal_in (pcap bytes).end) (λ many. h (ltb-false (length bytes) 4 many))
+refusal-none bytes h =
+    none_chosen (nat_lt (length bytes) 4) (refusal_in (pcap bytes).end) (λ many. h (ltb-false (length bytes) 4 many))

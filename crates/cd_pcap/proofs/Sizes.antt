@@ -26,7 +26,8 @@ more_size : (n m : ℕ) (c : Capture) → HaveSize n c → n ≤ m → HaveSize 
 unfolding HaveSize
 more_size n m c h few = omega (arith, h, few)
 
-first_size : (n m count : ℕ) (p : Packet) (c : Capture) → length p.bytes ≤ count → HaveSize n c → 16 + count + n ≤ m → HaveSize m (after (p ∷ []) c)
+first_size : (n m count : ℕ) (p : Packet) (c : Capture) → length p.bytes ≤ count → HaveSize n c → 16 + count + n ≤ m →
+    HaveSize m (after (p ∷ []) c)
 unfolding HaveSize
 first_size n m count p c short h few = omega (arith, short, h, few, sum_by-cons record_size p c.packets)
 
@@ -35,7 +36,8 @@ unfolding HaveSize
 size_known n c h = h
 
 -- records, of which so many bytes of one before stand in front
-records_size : (form : Form) (link inside at : ℕ) (bytes : List ℕ) → HaveSize (length bytes - inside) (records form link inside at bytes)
+records_size : (form : Form) (link inside at : ℕ) (bytes : List ℕ) →
+    HaveSize (length bytes - inside) (records form link inside at bytes)
 unfolding records
 records_size form link zero at [] = no_size _ _ refl
 records_size form link (suc inside) at [] = no_size _ _ refl
@@ -69,7 +71,8 @@ captures_have_size bytes =
           | inr three ↦ size_at _ _ _ (pcap-version form bytes magic long three) (no_size _ _ refl)
           | inl two ↦
               let k = records_size form (link_type form bytes) 0 24 (drop 24 bytes) in
-              size_at _ _ _ (pcap-records form bytes magic long two) (more_size _ _ _ k (omega (arith, length-drop 24 bytes)))
+              size_at _ _ _ (pcap-records form bytes magic long two)
+              (more_size _ _ _ k (omega (arith, length-drop 24 bytes)))
         ]
       ]
     ]

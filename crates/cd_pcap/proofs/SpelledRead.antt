@@ -23,7 +23,8 @@ use Rattle.cd_pcap.proofs.Records.{records-none, records-short, records-refused,
 use Rattle.cd_pcap.proofs.Spelled.{four, third, four_long, header_four, spelled_read}
 
 -- a record's header that is spelled says its captured length
-begins_read : (form : Form) (count : ℕ) (bytes : List ℕ) → BeginsRecord form count bytes → (captured_length form bytes ≡ count) × (16 ≤ length bytes)
+begins_read : (form : Form) (count : ℕ) (bytes : List ℕ) → BeginsRecord form count bytes →
+    (captured_length form bytes ≡ count) × (16 ≤ length bytes)
 begins_read form count bytes b =
     let is : bytes ≡ four form.order b.seconds b.fraction count b.original b.more =
     b.split ∙ header_four form b.seconds b.fraction count b.original b.more in (
@@ -32,7 +33,8 @@ begins_read form count bytes b =
     )
 
 -- what stands after the last whole record is read as the end that it is
-rest_read : (form : Form) (link at : ℕ) (rest : List ℕ) (e : EndState) → IsRest form at rest e → records form link 0 at rest ≡ ends e
+rest_read : (form : Form) (link at : ℕ) (rest : List ℕ) (e : EndState) → IsRest form at rest e →
+    records form link 0 at rest ≡ ends e
 rest_read form link at rest Whole h = records-none form link at rest (ap length h)
 rest_read form link at rest Cut (inl h) = records-short form link at rest h.0 h.1
 rest_read form link at rest Cut (inr (count, small, begins, few)) =
@@ -53,8 +55,10 @@ abbrev holding : List Packet → EndState → Capture
 holding packets e = record { packets = packets; end = e }
 
 -- records that are spelled are read, and what stands after them
-records_spelled : (form : Form) (link at : ℕ) (raws : List RawRecord) (rest : List ℕ) (e : EndState) → AllByRecursion Fits raws →
-    IsRest form (at + length (spellings form raws)) rest e → records form link 0 at (spellings form raws ++ rest) ≡ holding (packets_of form link at raws) e
+records_spelled : (form : Form) (link at : ℕ) (raws : List RawRecord) (rest : List ℕ) (e : EndState) →
+    AllByRecursion Fits raws →
+    IsRest form (at + length (spellings form raws)) rest e → records form link 0 at (spellings form raws ++ rest)
+    ≡ holding (packets_of form link at raws) e
 records_spelled form link at [] rest e fit h =
     let P : ℕ → Type 0 = λ n. IsRest form n rest e in
     let none : at + 0 ≡ at = omega arith in
@@ -73,7 +77,8 @@ records_spelled form link at (r ∷ rs) rest e fit h =
 held_in : (c : Capture) (packets : List Packet) → c.packets ≡ packets → holding packets c.end ≡ c
 held_in c packets is = ap (λ ps. holding ps c.end) (sym is)
 
-records_read : (form : Form) (link at : ℕ) (bytes : List ℕ) (c : Capture) → SpellsRecords form link at bytes c → records form link 0 at bytes ≡ c
+records_read : (form : Form) (link at : ℕ) (bytes : List ℕ) (c : Capture) → SpellsRecords form link at bytes c →
+    records form link 0 at bytes ≡ c
 records_read form link at bytes c s =
     ap (λ t. records form link 0 at t) s.split
     ∙ records_spelled form link at s.raws s.rest c.end s.fit s.end
@@ -87,7 +92,8 @@ version_read Big number version more small = omega (arith, from_be_bytes-to_be_b
 version_read Little number version more small = omega (arith, from_le_bytes-to_le_bytes_2 version small)
 
 -- a word is read again
-word_read : (order : Order) (word : ℕ) (more : List ℕ) → word < 2 ^ 32 → number32_at order 0 (bytes_of w32 order word ++ more) ≡ word
+word_read : (order : Order) (word : ℕ) (more : List ℕ) → word < 2 ^ 32 →
+    number32_at order 0 (bytes_of w32 order word ++ more) ≡ word
 unfolding be32 le32
 word_read Big word more small = omega (arith, from_be_bytes-to_be_bytes_4 word small)
 word_read Little word more small = omega (arith, from_le_bytes-to_le_bytes_4 word small)
@@ -117,13 +123,15 @@ front_long form h fits =
     )
 
 -- The parts of a header may be joined in any way.
-pub header_parts : (form : Form) (h : RawHeader) (more : List ℕ) → header form h ++ more ≡ header_front form h ++ (bytes_of w32 form.order h.link_word ++ more)
+pub header_parts : (form : Form) (h : RawHeader) (more : List ℕ) →
+    header form h ++ more ≡ header_front form h ++ (bytes_of w32 form.order h.link_word ++ more)
 header_parts form h more = append_assoc (header_front form h) (bytes_of w32 form.order h.link_word) more
 
 pub header_version : (form : Form) (h : RawHeader) (more : List ℕ) →
     header_front form h ++ more ≡ magic form ++ (bytes_of w16 form.order 2 ++ (h.unread ++ more))
 header_version form h more =
-    append_assoc (magic form ++ bytes_of w16 form.order 2) h.unread more ∙ append_assoc (magic form) (bytes_of w16 form.order 2) (h.unread ++ more)
+    append_assoc (magic form ++ bytes_of w16 form.order 2) h.unread more
+    ∙ append_assoc (magic form) (bytes_of w16 form.order 2) (h.unread ++ more)
 
 -- a header that is spelled, and then records
 headed_read : (form : Form) (bytes : List ℕ) (c : Capture) → SpellsAfterHeader form bytes c → pcap_in form bytes ≡ c
@@ -137,10 +145,21 @@ headed_read form bytes c s =
     ∙ version_read form.order (magic_number form.unit) 2 (s.raw.unread ++ (word ++ s.more)) (omega arith) in
     let last : drop 20 bytes ≡ word ++ s.more = ap (λ t. drop 20 t) is ∙ drop_at front (word ++ s.more) 20 size in
     let link : link_type form bytes ≡ s.raw.link_word % 0x10000 =
-    ap (λ n. n % 0x10000) (number32_at-drop form.order 20 bytes ∙ ap (λ t. number32_at form.order 0 t) last ∙ word_read form.order s.raw.link_word s.more s.fits.link_word) in
+    ap (λ n. n % 0x10000) (number32_at-drop form.order 20 bytes ∙ ap (λ t. number32_at form.order 0 t) last
+    ∙ word_read form.order s.raw.link_word s.more s.fits.link_word) in
     let rest : drop 24 bytes ≡ s.more =
-    sym (drop-drop 4 20 bytes) ∙ ap (λ t. drop 4 t) last ∙ drop_at word s.more 4 (word_long form.order s.raw.link_word) in
-    let long : 24 ≤ length bytes = omega (arith, size, ap length is, length-append front (word ++ s.more), length-append word s.more, word_long form.order s.raw.link_word) in
+    sym (drop-drop 4 20 bytes) ∙ ap (λ t. drop 4 t) last
+    ∙ drop_at word s.more 4 (word_long form.order s.raw.link_word) in
+    let long : 24 ≤ length bytes =
+    omega (
+      arith,
+      size,
+      ap length is,
+      length-append front
+          (word ++ s.more),
+      length-append word s.more,
+      word_long form.order s.raw.link_word,
+    ) in
     pcap_in-records form bytes long two
     ∙ ap (λ n. records form n 0 24 (drop 24 bytes)) link
     ∙ ap (λ t. records form (s.raw.link_word % 0x10000) 0 24 t) rest
@@ -150,12 +169,21 @@ headed_read form bytes c s =
 form_read : (form : Form) (bytes : List ℕ) (c : Capture) → SpellsIn form bytes c → pcap_in form bytes ≡ c
 form_read form bytes c (inl s) = headed_read form bytes c s
 form_read form bytes c (inr (inl (cut, is))) =
-    pcap_in-short form bytes (omega (arith, cut.few, ap length cut.split, length-append (magic form) cut.more, word_long form.order (magic_number form.unit))) ∙ sym is
+    pcap_in-short form bytes (omega (
+      arith,
+      cut.few,
+      ap length cut.split,
+      length-append
+          (magic form) cut.more,
+      word_long form.order (magic_number form.unit),
+    )) ∙ sym is
 form_read form bytes c (inr (inr (other, is))) =
     let half : List ℕ = bytes_of w16 form.order other.version in
-    let is_there : bytes ≡ magic form ++ (half ++ other.more) = other.split ∙ append_assoc (magic form) half other.more in
+    let is_there : bytes ≡ magic form ++ (half ++ other.more) =
+    other.split ∙ append_assoc (magic form) half other.more in
     let says : version form bytes ≡ other.version =
-    ap (λ t. number16_at form.order 4 t) is_there ∙ version_read form.order (magic_number form.unit) other.version other.more other.fits in
+    ap (λ t. number16_at form.order 4 t) is_there
+    ∙ version_read form.order (magic_number form.unit) other.version other.more other.fits in
     let long : 24 ≤ length bytes = omega (
       arith,
       other.many,
@@ -176,17 +204,21 @@ little_micro_front more = rw (le-ltb (length (magic little_micros ++ more)) 4 (o
 pub magic_front : (form : Form) (more : List ℕ) → IsRead form → form_of (magic form ++ more) ≡ Some form
 magic_front form more read =
     ap (λ (f : Form). form_of (magic f ++ more)) read
-    ∙ form_of-little_micro (magic little_micros ++ more) (little_micro_front more) ∙ ap (λ (f : Form). Some f) (sym read)
+    ∙ form_of-little_micro (magic little_micros ++ more) (little_micro_front more)
+    ∙ ap (λ (f : Form). Some f) (sym read)
 
 -- what is spelled is in one form
-spelled_form : (form : Form) (bytes : List ℕ) → IsRead form → (more : List ℕ) → bytes ≡ magic form ++ more → pcap bytes ≡ pcap_in form bytes
+spelled_form : (form : Form) (bytes : List ℕ) → IsRead form → (more : List ℕ) → bytes ≡ magic form ++ more →
+    pcap bytes ≡ pcap_in form bytes
 spelled_form form bytes read more split = pcap-form form bytes (ap form_of split ∙ magic_front form more read)
 
 -- each spelling begins with the magic
-begins_magic : (form : Form) (bytes : List ℕ) (c : Capture) → SpellsIn form bytes c → (more : List ℕ) × (bytes ≡ magic form ++ more)
+begins_magic : (form : Form) (bytes : List ℕ) (c : Capture) → SpellsIn form bytes c →
+    (more : List ℕ) × (bytes ≡ magic form ++ more)
 begins_magic form bytes c (inl s) = (
   bytes_of w16 form.order 2 ++ (s.raw.unread ++ (bytes_of w32 form.order s.raw.link_word ++ s.more)),
-  s.split ∙ header_parts form s.raw s.more ∙ header_version form s.raw (bytes_of w32 form.order s.raw.link_word ++ s.more),
+  s.split ∙ header_parts form s.raw s.more
+      ∙ header_version form s.raw (bytes_of w32 form.order s.raw.link_word ++ s.more),
 )
 begins_magic form bytes c (inr (inl (cut, is))) = (cut.more, cut.split)
 begins_magic form bytes c (inr (inr (other, is))) = (
@@ -200,12 +232,14 @@ told true same h = absurd cc
 told false same h = (refl, h)
 
 -- the magic that is found is at the front
-little_micro_found : (bytes : List ℕ) → All (λ byte. byte < 256) bytes → is_little_micro bytes ≡ true → bytes ≡ magic little_micros ++ drop 4 bytes
+little_micro_found : (bytes : List ℕ) → All (λ byte. byte < 256) bytes → is_little_micro bytes ≡ true →
+    bytes ≡ magic little_micros ++ drop 4 bytes
 unfolding has_magic
 little_micro_found bytes all found =
     let k = told (nat_lt (length bytes) 4) (nat_eq (le32 0 bytes) 0xa1b2c3d4) found in
     let number : le32 0 bytes ≡ 0xa1b2c3d4 = eqb-true (le32 0 bytes) 0xa1b2c3d4 k.1 in
-    let front : bytes_of w32 Little (number32_at Little 0 bytes) ≡ take 4 bytes = number32-spelled Little bytes all (ltb-false (length bytes) 4 k.0) in
+    let front : bytes_of w32 Little (number32_at Little 0 bytes) ≡ take 4 bytes =
+    number32-spelled Little bytes all (ltb-false (length bytes) 4 k.0) in
     sym (take-append-drop 4 bytes) ∙ ap (λ t. t ++ drop 4 bytes) (sym front ∙ ap (λ n. bytes_of w32 Little n) number)
 
 -- a form that is told is read, and its magic is at the front

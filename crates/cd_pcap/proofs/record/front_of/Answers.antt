@@ -7,7 +7,9 @@ pub returns-then-bytes-lt-RECORD_HEADER : goal.returns-then-bytes-lt-RECORD_HEAD
 returns-then-bytes-lt-RECORD_HEADER c = λ link. open-short little_micros link c.args.at c.args.bytes.now (omega arith)
 
 pub returns-then-size-gt-MOST_CAPTURED : goal.returns-then-size-gt-MOST_CAPTURED
-returns-then-size-gt-MOST_CAPTURED c = λ link. refused-record little_micros link c.args.at c.args.bytes.now (omega arith) (omega arith)
+returns-then-size-gt-MOST_CAPTURED c =
+    λ link. refused-record little_micros link c.args.at c.args.bytes.now (omega arith) (omega arith)
 
 pub returns-then-bytes-size : goal.returns-then-bytes-size
-returns-then-bytes-size c = λ link. open-cut little_micros link c.args.at c.args.bytes.now (omega arith) (omega arith) (omega arith)
+returns-then-bytes-size c =
+    λ link. open-cut little_micros link c.args.at c.args.bytes.now (omega arith) (omega arith) (omega arith)

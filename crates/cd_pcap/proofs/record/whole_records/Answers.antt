@@ -10,7 +10,8 @@ records-init c = record { within = omega arith; whole = λ link. none_whole litt
 
 pub records-preserved : goal.records-preserved
 records-preserved c =
-    let first : HasRecord little_micros c.in-Record.more (drop c.records.size c.args.bytes.now) = rw take_rest at c.in-Record.ensures in
+    let first : HasRecord little_micros c.in-Record.more (drop c.records.size c.args.bytes.now) =
+    rw take_rest at c.in-Record.ensures in
     record {
       within = omega (arith, first.whole, c.records.invariant.within, length-drop c.records.size c.args.bytes.now);
       whole = λ link. one_more_whole little_micros link c.args.at c.records.size c.in-Record.more c.args.bytes.now c.records.invariant.within (c.records.invariant.whole link) first;

@@ -7,7 +7,8 @@ pub returns-in-Refused-clause-history : goal.returns-in-Refused-clause-history
 returns-in-Refused-clause-history c =
     let sound = sound_inside c.self.inside c.self.invariant in
     let refused = rw (c.deref.ensures.value, take_rest) at c.in-Refused.ensures in
-    rw (c.refuse.ensures, ← c.self.view_is) (λ fed given h. header_refused _ c.in-Refused.bad fed given sound c.in-None.is refused h)
+    rw (c.refuse.ensures, ← c.self.view_is)
+    (λ fed given h. header_refused _ c.in-Refused.bad fed given sound c.in-None.is refused h)
 
 pub returns-in-Link-clause-history : goal.returns-in-Link-clause-history
 returns-in-Link-clause-history c =
