@@ -7,5 +7,6 @@ mod WholeBytes
 mod HeaderFlags
 mod SignatureFields
 mod ItemFields
-mod KeptAmong
+mod BareFields
+pub mod KeptAmong
 mod Searching

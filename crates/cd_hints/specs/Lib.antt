@@ -11,3 +11,4 @@ pub mod Addresses
 pub mod Flags
 pub mod Lists
 pub mod Items
+pub mod Bare

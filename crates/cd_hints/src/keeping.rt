@@ -15,6 +15,10 @@ mod ticks;
 
 pub use address_prefix::prefix;
 pub use dropping::dropped;
-pub use item::kept_item;
+pub use item::{bare_item, keeps_signatures, kept_item, kept_query_name, lead_question};
+pub use keeper::Keeper;
+pub use lists::{hinted_records, is_kept, kept_rdata, kept_ttl, later_questions};
 pub use malformed::kept_malformed;
+pub use signature::{bare_signature, kept_classtype, kept_options};
+pub use stored_address::{StoredAddress, kept_client_address, kept_server_address};
 pub use ticks::tick_of;

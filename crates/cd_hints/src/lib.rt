@@ -10,6 +10,8 @@
 //! - An *item* is what is kept of a pair, a query or a response (`kept_item`): each field where its *hint* is set and
 //!   it has a value. A malformed message is kept whole (`kept_malformed`). Resource records of types that are not
 //!   listed are *dropped*.
+//! - A *bare* item or signature has only what does not stand in the tables of a block. The values that do are lent from
+//!   the record (`kept_query_name` and its like), so that a table copies only what is new there.
 //!
 //! Example: with the defaults, a query for www.example.com of type A that is answered after 20 ms is an item with the
 //! name www.example.com, a response delay of 20,000 ticks of a microsecond, and a signature with the type and the
@@ -21,7 +23,12 @@ pub mod laws;
 mod record;
 mod settings;
 
-pub use keeping::{dropped, kept_item, kept_malformed, prefix, tick_of};
+pub use keeping::{
+    Keeper, StoredAddress, bare_item, bare_signature, dropped, hinted_records, is_kept,
+    keeps_signatures, kept_classtype, kept_client_address, kept_item, kept_malformed, kept_options,
+    kept_query_name, kept_rdata, kept_server_address, kept_ttl, later_questions, lead_question,
+    prefix, tick_of,
+};
 pub use record::Rec;
 pub use settings::{
     Interval, ListOption, NumberOption, Settings, default_settings, opcodes_of, types_of, valid,

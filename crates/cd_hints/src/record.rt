@@ -89,16 +89,16 @@ impl Rec {
         message_of(self.main_event())
     }
 
-    // The message of the query, where there is one.
-    pub(crate) fn query_message(&self) -> Option<&Message>
+    /// The message of the query, where there is one.
+    pub fn query_message(&self) -> Option<&Message>
         ensures message { option_copied result ≡ query_message (record_parts self.now) }
         ensures valid { IfSome result (λ m. Valid m.now) }
     {
         self.query().and_then(|query| message_of(query))
     }
 
-    // The message of the response, where there is one.
-    pub(crate) fn response_message(&self) -> Option<&Message>
+    /// The message of the response, where there is one.
+    pub fn response_message(&self) -> Option<&Message>
         ensures message { option_copied result ≡ response_message (record_parts self.now) }
         ensures valid { IfSome result (λ m. Valid m.now) }
     {

@@ -3,6 +3,7 @@
 ghost use Rattle.std.specs.Prelude.{◌≡◌, IfOk, option_and_then, Some};
 ghost use Rattle.std.specs.Option.{option_copied, option_map, option_map_or};
 ghost use Rattle.cd_ident.specs.Keys.{parts_of};
+ghost use Rattle.cd_hints.specs.Bare.{bare_item};
 ghost use Rattle.cd_hints.specs.Hinted;
 ghost use Rattle.cd_hints.specs.Items;
 ghost use Rattle.cd_hints.specs.Lists;
@@ -10,20 +11,20 @@ ghost use Rattle.cd_hints.specs.Records.{record_parts, main_event, query_message
 ghost use Rattle.cd_hints.specs.Ticks.{IsAtOrBefore};
 ghost use Rattle.cd_hints.specs.Validity.{AreValidParams, IsValid};
 
-use crate::keeping::copies::copy_name;
+use crate::keeping::copies::{copy_optional_address, copy_optional_name};
 use crate::keeping::hint::{is_hinted, kept};
 use crate::keeping::keeper::Keeper;
 use crate::keeping::lists::{no_lists, query_lists, response_lists};
 use crate::keeping::signature::kept_signature;
-use crate::keeping::stored_address::{client_prefix, hinted_address};
+use crate::keeping::stored_address::kept_client_address;
 use crate::keeping::ticks::{ticks_between, ticks_since};
 use crate::record::Rec;
 use crate::settings::Settings;
 use cd_block::hints::{
-    QR_CLIENT_ADDRESS, QR_CLIENT_HOPLIMIT, QR_CLIENT_PORT, QR_QUERY_NAME, QR_QUERY_SIZE,
-    QR_RESPONSE_DELAY, QR_RESPONSE_SIZE, QR_SIGNATURE, QR_TIME_OFFSET, QR_TRANSACTION_ID,
+    QR_CLIENT_HOPLIMIT, QR_CLIENT_PORT, QR_QUERY_NAME, QR_QUERY_SIZE, QR_RESPONSE_DELAY,
+    QR_RESPONSE_SIZE, QR_SIGNATURE, QR_TIME_OFFSET, QR_TRANSACTION_ID,
 };
-use cd_block::{KeptItem, KeptLists, KeptSig, Params, Stamp};
+use cd_block::{BlockItem, BlockLists, KeptItem, KeptLists, KeptSig, Params, Stamp};
 use cd_ident::Event;
 use cd_message::{Message, Question};
 use cd_name::Name;
@@ -36,9 +37,9 @@ fn first_question(message: Option<&Message>) -> Option<&Question>
     message.and_then(|message| message.questions.as_slice().first())
 }
 
-// The lead question of a record: the query's first one, or the response's first one where there is no query or it has
-// none.
-fn lead_question(rec: &Rec) -> Option<&Question>
+/// The lead question of a record: the query's first one, or the response's first one where there is no query or it has
+/// none.
+pub fn lead_question(rec: &Rec) -> Option<&Question>
     ensures { option_copied result ≡ Items.lead_question (record_parts rec.now) }
 {
     match first_question(rec.query_message()) {
@@ -84,25 +85,25 @@ fn response_delay(params: &Params, rec: &Rec) -> Option<i64>
     }
 }
 
-// What is kept of the name of the lead question.
-fn kept_query_name(
-    alloc: Global,
-    hints: u32,
-    lead: Option<&Question>,
-) -> Result<Option<Name>, AllocError>
-    ensures { IfOk result (λ name. name ≡
-        Hinted.kept hints QR_QUERY_NAME (option_map (λ q. q.name) (option_copied lead.entry))) }
+/// What is kept of the name of the lead question.
+pub fn kept_query_name<'a>(params: &Params, lead: Option<&'a Question>) -> Option<&'a Name>
+    ensures { option_copied result ≡ Hinted.kept params.now.hints.qr QR_QUERY_NAME
+        (option_map (λ q. q.name) (option_copied lead.entry)) }
 {
-    if !is_hinted(hints, QR_QUERY_NAME) {
-        return Ok(None);
+    if !is_hinted(params.hints.qr, QR_QUERY_NAME) {
+        return None;
     }
     match lead {
-        Some(question) => {
-            let name = copy_name(alloc, &question.name)?;
-            Ok(Some(name))
-        }
-        None => Ok(None),
+        Some(question) => Some(&question.name),
+        None => None,
     }
+}
+
+/// Whether signatures are kept.
+pub fn keeps_signatures(params: &Params) -> bool
+    ensures { result ≡ Hinted.is_hinted params.now.hints.qr QR_SIGNATURE }
+{
+    is_hinted(params.hints.qr, QR_SIGNATURE)
 }
 
 // The signature of a record with this lead question, where its hint is set.
@@ -117,7 +118,7 @@ fn hinted_signature(
     ensures { IfOk result (λ signature. signature ≡
         Hinted.kept params.now.hints.qr QR_SIGNATURE (Some (Items.kept_signature params.now (record_parts rec.now)))) }
 {
-    if !is_hinted(params.hints.qr, QR_SIGNATURE) {
+    if !keeps_signatures(params) {
         return Ok(None);
     }
     let signature = kept_signature(alloc, params, rec, lead)?;
@@ -146,6 +147,40 @@ fn response_extended(alloc: Global, keeper: &Keeper, rec: &Rec) -> Result<KeptLi
     }
 }
 
+// No list of a block.
+const BARE_LISTS: BlockLists = BlockLists {
+    question: None,
+    answer: None,
+    authority: None,
+    additional: None,
+};
+
+/// What is kept of a record in its item, without what stands in tables, in a block with this earliest time, which is at or
+/// before the record's. The parameters must be valid.
+pub fn bare_item(params: &Params, rec: &Rec, earliest: Stamp) -> BlockItem
+    requires valid { AreValidParams params.now }
+    requires earliest { IsAtOrBefore params.now.ticks earliest (main_event (record_parts rec.now)).time }
+    ensures { result ≡ bare_item (Items.kept_item params.now earliest (record_parts rec.now)) }
+{
+    let hints = params.hints.qr;
+    let event = rec.main_event();
+    let offset = ticks_since(params.ticks, earliest, event.time);
+    BlockItem {
+        time_offset: kept(hints, QR_TIME_OFFSET, Some(offset)),
+        client_address: None,
+        client_port: kept(hints, QR_CLIENT_PORT, Some(event.client_port)),
+        transaction_id: kept(hints, QR_TRANSACTION_ID, transaction_id(rec.main_message())),
+        signature: None,
+        client_hoplimit: kept(hints, QR_CLIENT_HOPLIMIT, hop_limit(rec.query())),
+        response_delay: kept(hints, QR_RESPONSE_DELAY, response_delay(params, rec)),
+        query_name: None,
+        query_size: kept(hints, QR_QUERY_SIZE, payload_size(rec.query())),
+        response_size: kept(hints, QR_RESPONSE_SIZE, payload_size(rec.response())),
+        query_extended: BARE_LISTS,
+        response_extended: BARE_LISTS,
+    }
+}
+
 /// The item of a pair, a query or a response, in a block with this earliest time, which is at or before the record's
 /// (RFC 8618 7.3.2.4). The settings must be valid. A field is there exactly where its hint is set and it has a value.
 /// An `Err` is for want of memory.
@@ -163,22 +198,19 @@ pub fn kept_item(
 {
     let params = &settings.params;
     let keeper = Keeper::of_ascending(params);
-    let hints = params.hints.qr;
-    let event = rec.main_event();
-    let offset = ticks_since(params.ticks, earliest, event.time);
+    let bare = bare_item(params, rec, earliest);
     let lead = lead_question(rec);
-    let bits = client_prefix(&params.prefixes, event.client.v6);
     Ok(KeptItem {
-        time_offset: kept(hints, QR_TIME_OFFSET, Some(offset)),
-        client_address: hinted_address(alloc, hints, QR_CLIENT_ADDRESS, bits, &event.client)?,
-        client_port: kept(hints, QR_CLIENT_PORT, Some(event.client_port)),
-        transaction_id: kept(hints, QR_TRANSACTION_ID, transaction_id(rec.main_message())),
+        time_offset: bare.time_offset,
+        client_address: copy_optional_address(alloc, kept_client_address(params, rec))?,
+        client_port: bare.client_port,
+        transaction_id: bare.transaction_id,
         signature: hinted_signature(alloc, params, rec, lead)?,
-        client_hoplimit: kept(hints, QR_CLIENT_HOPLIMIT, hop_limit(rec.query())),
-        response_delay: kept(hints, QR_RESPONSE_DELAY, response_delay(params, rec)),
-        query_name: kept_query_name(alloc, hints, lead)?,
-        query_size: kept(hints, QR_QUERY_SIZE, payload_size(rec.query())),
-        response_size: kept(hints, QR_RESPONSE_SIZE, payload_size(rec.response())),
+        client_hoplimit: bare.client_hoplimit,
+        response_delay: bare.response_delay,
+        query_name: copy_optional_name(alloc, kept_query_name(params, lead))?,
+        query_size: bare.query_size,
+        response_size: bare.response_size,
         query_extended: query_extended(alloc, &keeper, rec)?,
         response_extended: response_extended(alloc, &keeper, rec)?,
     })

@@ -5,7 +5,7 @@ ghost use Rattle.std.specs.List.{list_any};
 ghost use Rattle.std.specs.List.Sorted.{IsStrictlyIncreasing};
 
 use crate::settings::validity::ascends;
-use cd_block::Params;
+use cd_block::{Hints, Params};
 use std::marker::Model;
 
 // Whether a type is one of these, which ascend.
@@ -19,10 +19,10 @@ fn is_in_ascending(types: &[u16], rtype: u16) -> bool
     }
 }
 
-// The parameters by which a record is kept, with whether their types are known to ascend. Those of valid settings do.
-// Where they do, a type is found by binary search.
+/// The parameters by which a record is kept, with whether their types are known to ascend. Those of valid settings do.
+/// Where they do, a type is found by binary search.
 #[derive(Debug, Drop)]
-pub(crate) struct Keeper<'a> {
+pub struct Keeper<'a> {
     pub(crate) params: &'a Params,
     ascend: bool,
 }
@@ -40,8 +40,8 @@ impl<'a> Model for Keeper<'a> {
 }
 
 impl<'a> Keeper<'a> {
-    // Looks once whether the types ascend.
-    pub(crate) fn new(params: &'a Params) -> Keeper<'a>
+    /// Looks once whether the types ascend.
+    pub fn new(params: &'a Params) -> Keeper<'a>
         ensures { result ≡ params.now }
     {
         Keeper {
@@ -50,8 +50,8 @@ impl<'a> Keeper<'a> {
         }
     }
 
-    // The same of parameters whose types ascend.
-    pub(crate) fn of_ascending(params: &'a Params) -> Keeper<'a>
+    /// The same of parameters whose types ascend.
+    pub fn of_ascending(params: &'a Params) -> Keeper<'a>
         requires { IsStrictlyIncreasing params.now.rr_types }
         ensures { result ≡ params.now }
     {
@@ -61,8 +61,15 @@ impl<'a> Keeper<'a> {
         }
     }
 
-    // Whether a type is listed.
-    pub(crate) fn lists(&self, rtype: u16) -> bool
+    /// The hints of the parameters.
+    pub fn hints(&self) -> Hints
+        ensures { result ≡ self.now.hints }
+    {
+        self.params.hints
+    }
+
+    /// Whether a type is listed.
+    pub fn lists(&self, rtype: u16) -> bool
         ensures { result ≡ list_any (λ t. nat_eq t rtype) self.now.rr_types }
     {
         let types = self.params.rr_types.as_slice();

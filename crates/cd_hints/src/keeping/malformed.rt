@@ -7,7 +7,7 @@ ghost use Rattle.cd_hints.specs.Records.{record_parts, main_event, payload_in, H
 ghost use Rattle.cd_hints.specs.Ticks.{IsAtOrBefore};
 ghost use Rattle.cd_hints.specs.Validity.{AreValidParams, IsValid};
 
-use crate::keeping::copies::copy_blob;
+use crate::keeping::copies::{copy_address, copy_blob};
 use crate::keeping::flags::transport_flags;
 use crate::keeping::stored_address::{client_prefix, server_prefix, stored_address};
 use crate::keeping::ticks::ticks_since;
@@ -38,7 +38,7 @@ fn kept_data(alloc: Global, params: &Params, event: &Event) -> Result<KeptData, 
     ensures { IfOk result (λ kept. kept ≡ Items.kept_data params.now (parts_of event.now)) }
 {
     let bits = server_prefix(&params.prefixes, event.server.v6);
-    let address = stored_address(alloc, bits, &event.server)?;
+    let address = copy_address(alloc, &stored_address(bits, &event.server))?;
     let payload = copy_payload(alloc, &event.body)?;
     Ok(KeptData {
         server_address: Some(address),
@@ -66,7 +66,7 @@ pub fn kept_malformed(
     let event = rec.main_event();
     let offset = ticks_since(params.ticks, earliest, event.time);
     let bits = client_prefix(&params.prefixes, event.client.v6);
-    let address = stored_address(alloc, bits, &event.client)?;
+    let address = copy_address(alloc, &stored_address(bits, &event.client))?;
     let data = kept_data(alloc, params, event)?;
     Ok(KeptMalformed {
         time_offset: Some(offset),

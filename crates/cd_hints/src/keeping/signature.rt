@@ -5,26 +5,26 @@ ghost use Rattle.std.specs.Option.{option_copied, option_map, option_map_or, For
 ghost use Rattle.cd_edns.specs.Opts.{opt_seen, opt_of_message, full_rcode_of};
 ghost use Rattle.cd_ident.specs.Headers;
 ghost use Rattle.cd_message.specs.Valid.{Valid};
+ghost use Rattle.cd_hints.specs.Bare.{bare_signature};
 ghost use Rattle.cd_hints.specs.Hinted;
 ghost use Rattle.cd_hints.specs.Items;
 ghost use Rattle.cd_hints.specs.Records.{record_parts};
 ghost use Rattle.cd_hints.specs.Validity.{AreValidParams};
 
-use crate::keeping::copies::copy_blob;
+use crate::keeping::copies::{copy_optional_address, copy_optional_blob};
 use crate::keeping::flags::{dns_flags, signature_flags, transport_flags};
 use crate::keeping::hint::{is_hinted, kept};
-use crate::keeping::stored_address::{hinted_address, server_prefix};
+use crate::keeping::stored_address::kept_server_address;
 use crate::record::Rec;
 use cd_block::hints::{
     SIG_ANCOUNT, SIG_ARCOUNT, SIG_CLASSTYPE, SIG_DNS_FLAGS, SIG_EDNS_VERSION, SIG_NSCOUNT,
-    SIG_OPCODE, SIG_OPT_RDATA, SIG_QDCOUNT, SIG_QUERY_RCODE, SIG_RESPONSE_RCODE,
-    SIG_SERVER_ADDRESS, SIG_SERVER_PORT, SIG_SIG_FLAGS, SIG_TRANSPORT_FLAGS, SIG_UDP_SIZE,
+    SIG_OPCODE, SIG_OPT_RDATA, SIG_QDCOUNT, SIG_QUERY_RCODE, SIG_RESPONSE_RCODE, SIG_SERVER_PORT,
+    SIG_SIG_FLAGS, SIG_TRANSPORT_FLAGS, SIG_UDP_SIZE,
 };
-use cd_block::{KeptSig, Params};
+use cd_block::{BlockSig, KeptSig, Params};
 use cd_edns::{OptRef, opt_ref};
 use cd_ident::opcode_of;
 use cd_message::{Message, Question};
-use cd_name::Blob;
 use std::alloc::{AllocError, Global};
 
 // The OPT record of a message, where there is a message and it has one.
@@ -121,32 +121,37 @@ fn record_counts(message: Option<&Message>) -> RecordCounts
     }
 }
 
-// What is kept of the type and the class of the lead question.
-fn kept_classtype(hints: u32, lead: Option<&Question>) -> Option<(u16, u16)>
-    ensures { result ≡
-        Hinted.kept hints SIG_CLASSTYPE (option_map (λ q. (q.rtype, q.rclass)) (option_copied lead.entry)) }
+/// What is kept of the type and the class of the lead question.
+pub fn kept_classtype(params: &Params, lead: Option<&Question>) -> Option<(u16, u16)>
+    ensures { result ≡ Hinted.kept params.now.hints.sig SIG_CLASSTYPE
+        (option_map (λ q. (q.rtype, q.rclass)) (option_copied lead.entry)) }
 {
-    if !is_hinted(hints, SIG_CLASSTYPE) {
+    if !is_hinted(params.hints.sig, SIG_CLASSTYPE) {
         return None;
     }
     lead.map(|question| (question.rtype, question.rclass))
 }
 
-// What is kept of the options of the query's OPT record.
-fn kept_options(alloc: Global, hints: u32, opt: Option<OptRef>) -> Result<Option<Blob>, AllocError>
-    ensures { IfOk result (λ options. options ≡
-        Hinted.kept hints SIG_OPT_RDATA (option_map (λ o. o.rdata) (option_map opt_seen opt.entry))) }
+// What is kept of the options of an OPT record, where there is one.
+fn hinted_options(hints: u32, opt: Option<OptRef<'_>>) -> Option<&[u8]>
+    ensures { option_map (λ b. b.now) result ≡
+        Hinted.kept hints SIG_OPT_RDATA (option_map (λ o. o.rdata) (option_map opt_seen opt.entry)) }
 {
     if !is_hinted(hints, SIG_OPT_RDATA) {
-        return Ok(None);
+        return None;
     }
     match opt {
-        Some(opt) => {
-            let options = copy_blob(alloc, opt.rdata)?;
-            Ok(Some(options))
-        }
-        None => Ok(None),
+        Some(opt) => Some(opt.rdata),
+        None => None,
     }
+}
+
+/// What is kept of the options of the query's OPT record.
+pub fn kept_options<'a>(params: &Params, rec: &'a Rec) -> Option<&'a [u8]>
+    ensures { option_map (λ b. b.now) result ≡ Hinted.kept params.now.hints.sig SIG_OPT_RDATA
+        (option_map (λ o. o.rdata) (Items.query_opt (record_parts rec.now))) }
+{
+    hinted_options(params.hints.sig, opt_in(rec.query_message()))
 }
 
 // Whether bytes stand after the query's message.
@@ -156,6 +161,44 @@ fn is_query_trailing(rec: &Rec) -> bool
     match rec.query() {
         Some(query) => query.trailing,
         None => false,
+    }
+}
+
+/// What is kept of a record in its signature, without what stands in tables.
+pub fn bare_signature(params: &Params, rec: &Rec) -> BlockSig
+    ensures { result ≡ bare_signature (Items.kept_signature params.now (record_parts rec.now)) }
+{
+    let hints = params.hints.sig;
+    let event = rec.main_event();
+    let message = rec.main_message();
+    let query = rec.query_message();
+    let response = rec.response_message();
+    let query_opt = opt_in(query);
+    let response_opt = opt_in(response);
+    let counts = record_counts(query);
+    let transport = transport_flags(event, is_query_trailing(rec));
+    let flags = signature_flags(query, query_opt, response, response_opt);
+    BlockSig {
+        server_address: None,
+        server_port: kept(hints, SIG_SERVER_PORT, Some(event.server_port)),
+        transport_flags: kept(hints, SIG_TRANSPORT_FLAGS, Some(transport)),
+        sig_flags: kept(hints, SIG_SIG_FLAGS, Some(flags)),
+        opcode: kept(hints, SIG_OPCODE, opcode(message)),
+        dns_flags: kept(
+            hints,
+            SIG_DNS_FLAGS,
+            Some(dns_flags(query, query_opt, response)),
+        ),
+        query_rcode: kept(hints, SIG_QUERY_RCODE, rcode(query, query_opt)),
+        classtype: None,
+        qd: kept(hints, SIG_QDCOUNT, question_count(message)),
+        an: kept(hints, SIG_ANCOUNT, counts.answers),
+        ns: kept(hints, SIG_NSCOUNT, counts.authority),
+        ar: kept(hints, SIG_ARCOUNT, counts.additional),
+        edns_version: kept(hints, SIG_EDNS_VERSION, edns_version(query_opt)),
+        udp_size: kept(hints, SIG_UDP_SIZE, udp_size(query_opt)),
+        opt_rdata: None,
+        response_rcode: kept(hints, SIG_RESPONSE_RCODE, rcode(response, response_opt)),
     }
 }
 
@@ -170,37 +213,23 @@ pub(crate) fn kept_signature(
     requires lead { option_copied lead ≡ Items.lead_question (record_parts rec.now) }
     ensures { IfOk result (λ signature. signature ≡ Items.kept_signature params.now (record_parts rec.now)) }
 {
-    let hints = params.hints.sig;
-    let event = rec.main_event();
-    let message = rec.main_message();
-    let query = rec.query_message();
-    let response = rec.response_message();
-    let query_opt = opt_in(query);
-    let response_opt = opt_in(response);
-    let counts = record_counts(query);
-    let transport = transport_flags(event, is_query_trailing(rec));
-    let flags = signature_flags(query, query_opt, response, response_opt);
-    let bits = server_prefix(&params.prefixes, event.server.v6);
+    let bare = bare_signature(params, rec);
     Ok(KeptSig {
-        server_address: hinted_address(alloc, hints, SIG_SERVER_ADDRESS, bits, &event.server)?,
-        server_port: kept(hints, SIG_SERVER_PORT, Some(event.server_port)),
-        transport_flags: kept(hints, SIG_TRANSPORT_FLAGS, Some(transport)),
-        sig_flags: kept(hints, SIG_SIG_FLAGS, Some(flags)),
-        opcode: kept(hints, SIG_OPCODE, opcode(message)),
-        dns_flags: kept(
-            hints,
-            SIG_DNS_FLAGS,
-            Some(dns_flags(query, query_opt, response)),
-        ),
-        query_rcode: kept(hints, SIG_QUERY_RCODE, rcode(query, query_opt)),
-        classtype: kept_classtype(hints, lead),
-        qd: kept(hints, SIG_QDCOUNT, question_count(message)),
-        an: kept(hints, SIG_ANCOUNT, counts.answers),
-        ns: kept(hints, SIG_NSCOUNT, counts.authority),
-        ar: kept(hints, SIG_ARCOUNT, counts.additional),
-        edns_version: kept(hints, SIG_EDNS_VERSION, edns_version(query_opt)),
-        udp_size: kept(hints, SIG_UDP_SIZE, udp_size(query_opt)),
-        opt_rdata: kept_options(alloc, hints, query_opt)?,
-        response_rcode: kept(hints, SIG_RESPONSE_RCODE, rcode(response, response_opt)),
+        server_address: copy_optional_address(alloc, kept_server_address(params, rec))?,
+        server_port: bare.server_port,
+        transport_flags: bare.transport_flags,
+        sig_flags: bare.sig_flags,
+        opcode: bare.opcode,
+        dns_flags: bare.dns_flags,
+        query_rcode: bare.query_rcode,
+        classtype: kept_classtype(params, lead),
+        qd: bare.qd,
+        an: bare.an,
+        ns: bare.ns,
+        ar: bare.ar,
+        edns_version: bare.edns_version,
+        udp_size: bare.udp_size,
+        opt_rdata: copy_optional_blob(alloc, kept_options(params, rec))?,
+        response_rcode: bare.response_rcode,
     })
 }
