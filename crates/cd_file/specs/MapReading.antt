@@ -61,18 +61,22 @@ entries_read table (pair ∷ pairs) course = do
   next ← entry_by table (integer_in (out-Item pair.0)) pair.1 course
   entries_read table pairs next
 
--- the fields, where each required key was met, or else the least that was not; the keys of a table ascend
-unfoldable pub complete : {F : Type 0} → List (Line F) → Course F → Refusing F
-complete [] course = Ok course.fields
-complete (line ∷ table) course =
-    if line.is_required && not (is_met course.met (pos line.key)) then Err (Missing (pos line.key))
-    else complete table course
+-- the least required key that was not met; the keys of a table ascend
+unfoldable pub first_missing : {F : Type 0} → List (Line F) → List ℤ → Option ℕ
+first_missing [] met = None
+first_missing (line ∷ table) met =
+    if line.is_required && not (is_met met (pos line.key)) then Some line.key else first_missing table met
+
+-- the fields at the end of a map of which this key is missing
+abbrev pub complete : {F : Type 0} → Option ℕ → F → Refusing F
+complete None fields = Ok fields
+complete (Some key) fields = Err (Missing (pos key))
 
 -- the fields of a map with these pairs, from what they are before its first entry
 unfoldable pub fields_of : {F : Type 0} → List (Line F) → F → List (Item × Item) → Refusing F
 fields_of table before pairs = do
   course ← entries_read table pairs (record { met = []; fields = before })
-  complete table course
+  complete (first_missing table course.met) course.fields
 
 -- a map under a key, whose fields are these before its first entry
 unfoldable pub map_from : {F : Type 0} → List (Line F) → F → Kind F

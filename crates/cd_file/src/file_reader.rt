@@ -1,6 +1,6 @@
 //! A reader of a file that comes in pieces.
 
-ghost use Rattle.std.specs.Prelude.{◌≡◌, ℕ, ◌+◌, ◌≤◌, ◌^◌, [], ◌++◌, List, length, true, OnErr, MatchOption, slice_get, option_and_then, None};
+
 
 use cd_block::{Block, Params};
 
