@@ -54,7 +54,7 @@ pub use encoding::encode;
 pub use event::{Act, Event, Step, Told};
 pub use fault::{CborFault, Why};
 pub use head::{push_array_head, push_head, push_map_head};
-pub use head_reading::{argument_at, byte_at, major_type};
+pub use head_reading::{argument_at, byte_at, major_type as major_type_of};
 pub use integer::Integer;
 pub use item::Item;
 pub use item_reading::{MOST_DEPTH, decode_one};

@@ -14,3 +14,4 @@ pub mod ItemHeads
 pub mod ReadFile
 pub mod KeptFile
 pub mod FileReading
+pub mod ItemReading
