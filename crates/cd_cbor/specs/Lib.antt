@@ -9,4 +9,5 @@ pub mod Reading
 pub mod Events
 pub mod Following
 pub mod EventLaws
+pub mod Scanning
 pub mod Laws
