@@ -23,9 +23,9 @@ pub(crate) fn bad(at: usize, why: Why) -> CborFault
     CborFault::Bad { at: at as u64, why }
 }
 
-// The byte at an offset.
+/// The byte at an offset, in bytes from their start. `Err` is an end, at the number of bytes, where they are too few.
 #[tactic(auto, unfolding(crate::specs::Readings::byte_at))]
-pub(crate) fn byte_at(bytes: &[u8], at: usize) -> Result<u8, CborFault>
+pub fn byte_at(bytes: &[u8], at: usize) -> Result<u8, CborFault>
     ensures read { Gives (λ byte. byte) result (readings.byte_at at bytes.now) }
     ensures within { IfOk result (λ _. at < length bytes.now) }
     ensures fault { IfErr result (λ e. LiesWithin bytes.now e) }
@@ -37,9 +37,9 @@ pub(crate) fn byte_at(bytes: &[u8], at: usize) -> Result<u8, CborFault>
     }
 }
 
-// The major type of the head with this first byte.
+/// The major type of the head with this first byte (RFC 8949 3).
 #[tactic(auto, unfolding(crate::specs::Heads::major_type))]
-pub(crate) fn major_type(first: u8) -> MajorType
+pub fn major_type(first: u8) -> MajorType
     ensures { result ≡ heads.major_type (first / 32) }
 {
     match first / 32 {
@@ -95,9 +95,11 @@ fn argument_of(info: u8, after: &[u8]) -> u64
     }
 }
 
-// The argument of the head at an offset, of which the first byte is there, and where the head ends.
+/// The argument of the head at an offset, of which the first byte is there, and the offset behind the head. The additional
+/// information is that of its first byte, below 28 (RFC 8949 3). `Err` is an end, at the number of bytes, where they are
+/// too few.
 #[tactic(auto, unfolding(crate::specs::Reading::argument_at))]
-pub(crate) fn argument_at(bytes: &[u8], info: u8, at: usize) -> Result<(u64, usize), CborFault>
+pub fn argument_at(bytes: &[u8], info: u8, at: usize) -> Result<(u64, usize), CborFault>
     requires { at < length bytes.now }
     ensures read { Gives (λ x. (x.0, x.1)) result (reading.argument_at info at bytes.now) }
     ensures within { IfOk result (λ x. (at < x.1) × (x.1 ≤ length bytes.now)) }

@@ -29,9 +29,10 @@ fn is_content(is_text: bool, content: &[u8]) -> bool
     }
 }
 
-// The content of a string, once it is whole: so many bytes from an offset on, of a head at an offset before.
+/// The content of a string, once it is whole: so many bytes from an offset on, of a head at an offset before. `Err` is an
+/// end, at the number of bytes, where they are too few, or at the head that the content is no UTF-8.
 #[tactic(auto, unfolding(crate::specs::Reading::content_at))]
-fn content_at(
+pub fn content_at(
     bytes: &[u8],
     is_text: bool,
     head: usize,
@@ -116,8 +117,9 @@ pub(crate) fn chunk_at(
     string_at(bytes, is_text, before, first % 32, at)
 }
 
-// The content of the string in chunks that begin at an offset, and the offset after its break.
-pub(crate) fn chunks_at(
+/// A copy of the content of the string in chunks of which the first begins at an offset, and the offset behind its break.
+/// `Err` is the first fault, at the chunk that shows it, or for want of memory.
+pub fn chunks_at(
     alloc: Global,
     bytes: &[u8],
     is_text: bool,

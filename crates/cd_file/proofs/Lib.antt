@@ -3,3 +3,4 @@ pub mod Maps
 pub mod MapSizes
 pub mod Numbers
 pub mod Sizes
+pub mod HeadsOf

@@ -4,3 +4,14 @@ pub mod Tables
 pub mod Blocks
 pub mod Files
 pub mod Ranges
+pub mod Refusing
+pub mod Kinds
+pub mod MapReading
+pub mod ReadHead
+pub mod ReadTables
+pub mod ReadBlock
+pub mod ItemHeads
+pub mod ReadFile
+pub mod KeptFile
+pub mod FileReading
+pub mod ItemReading

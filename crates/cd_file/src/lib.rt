@@ -36,14 +36,22 @@
 mod block;
 mod end;
 mod entries;
+mod file_reader;
 mod head;
 mod items;
+pub mod key_laws;
 pub mod laws;
 mod opcodes;
+mod preamble;
+mod reading;
+mod refusal;
 pub mod size_laws;
 mod spelled;
+mod stage;
 mod tables;
 
 pub use block::block_bytes;
 pub use end::end_bytes;
+pub use file_reader::Next;
 pub use head::head_bytes;
+pub use refusal::{BadFile, FileFault, FileWhy};
