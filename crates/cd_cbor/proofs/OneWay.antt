@@ -5,7 +5,7 @@ use Rattle.std.proofs.lemmas.List.{drop-append-le}
 use Rattle.cd_cbor.specs.Readings.{refused}
 use Rattle.cd_cbor.specs.Events.{Open, nothing_open, front_step}
 use Rattle.cd_cbor.specs.Following.{Leads, begins, goes_on, tells, Stops, position_after}
-use Rattle.cd_cbor.specs.OnePath.{OneHistory, HistoriesAreOne, HistoriesStay, StopsOnce, StopsAreOne}
+use Rattle.cd_cbor.specs.OnePath.{OneHistory, HistoriesAreOne, HistoriesStay, StopsAreOne}
 use Rattle.cd_cbor.specs.declared.event.Event.{Event}
 use Rattle.cd_cbor.specs.declared.fault.Why.{Why}
 use Rattle.cd_cbor.specs.declared.fault.Why.TheVariants as why

@@ -1,14 +1,14 @@
 -- What is told of an item that is read are its events.
-use Rattle.std.proofs.Common.{◌≡◌, ℕ, ◌+◌, ◌-◌, ◌<◌, ◌≤◌, List, [], ◌∷◌, ◌++◌, length, drop, Ok, Err, refl, ap, sym, subst, ◌∙◌, arith, append_assoc}
+use Rattle.std.proofs.Common.{◌≡◌, ℕ, ◌+◌, ◌-◌, ◌<◌, List, [], ◌∷◌, ◌++◌, length, drop, Ok, Err, ap, sym, subst, ◌∙◌, arith, append_assoc}
 use Rattle.std.specs.Prelude.{All, Result}
 use Rattle.std.proofs.lemmas.List.{append_cancel_left}
 use Rattle.cd_cbor.specs.Spells.{Spells, Cbor, most_depth}
 use Rattle.cd_cbor.specs.Readings.{piece}
 use Rattle.cd_cbor.specs.Reading.{item_at}
-use Rattle.cd_cbor.specs.Events.{Open, passed, nothing_open}
+use Rattle.cd_cbor.specs.Events.{passed, nothing_open}
 use Rattle.cd_cbor.specs.Telling.{item_events, events_of}
-use Rattle.cd_cbor.specs.Following.{Kept, Leads, StandsFor, Stops, Nexts}
-use Rattle.cd_cbor.specs.OnePath.{TellsItem, EventsAreTheItems, SaysAgain}
+use Rattle.cd_cbor.specs.Following.{Kept, Leads, Stops, Nexts}
+use Rattle.cd_cbor.specs.OnePath.{EventsAreTheItems, SaysAgain}
 use Rattle.cd_cbor.specs.declared.item.Item.{Item}
 use Rattle.cd_cbor.specs.declared.event.Event.{Event}
 use Rattle.cd_cbor.specs.declared.event.Step.{Step}
@@ -21,7 +21,6 @@ use Rattle.cd_cbor.specs.declared.fault.CborFault.TheVariants as fault
 use Rattle.cd_cbor.proofs.Offsets.{piece_is}
 use Rattle.cd_cbor.proofs.Stands.{Stands}
 use Rattle.cd_cbor.proofs.ItemsStand.{item_sound}
-use Rattle.cd_cbor.proofs.Growing.{item_within}
 use Rattle.cd_cbor.proofs.Histories.{leads_grow}
 use Rattle.cd_cbor.proofs.Follow.{among}
 use Rattle.cd_cbor.proofs.ToldEvents.{item_tells}

@@ -1,6 +1,5 @@
-use Rattle.std.proofs.Common.{◌≡◌, ◌<◌, arith}
+use Rattle.std.proofs.Common.{◌<◌, arith}
 use Rattle.std.proofs.lemmas.List.Elements.{All-from_get_or}
-use Rattle.cd_cbor.specs.declared.scan.Judged.{Judged}
 use Rattle.cd_cbor.specs.declared.scan.Judged.TheVariants as judged
 use Rattle.cd_cbor.proofs.Marks.{end_told}
 use Rattle.cd_cbor.proofs.scan.item_end.Goals as goal
