@@ -1,5 +1,5 @@
 -- What histories of the same bytes have in common.
-use Rattle.std.specs.Prelude.{◌≡◌, ℕ, ◌-◌, ◌<◌, ◌≤◌, List, [], ◌++◌, Result, Ok, Err, All}
+use Rattle.std.specs.Prelude.{◌≡◌, ℕ, ◌-◌, ◌<◌, ◌≤◌, List, ◌++◌, Result, Ok, Err, All}
 use Rattle.cd_cbor.specs.Spells.{most_depth, Cbor}
 use Rattle.cd_cbor.specs.Readings.{piece}
 use Rattle.cd_cbor.specs.Reading.{item_at}

@@ -1,5 +1,5 @@
 -- Each step of a loop is a step of the definition.
-use Rattle.std.proofs.Common.{ℕ, ◌-◌, ◌+◌, length, arith}
+use Rattle.std.proofs.Common.{ℕ, ◌-◌, length, arith}
 use Rattle.cd_cbor.specs.Readings.{times, until_break}
 use Rattle.cd_cbor.specs.Reading.{entry_at, item_at}
 use Rattle.cd_cbor.specs.Ends.{end_of}
