@@ -1,5 +1,5 @@
 -- Each turn of the loop passes what is due.
-use Rattle.std.proofs.Common.{◌≡◌, ◌<◌, ◌∙◌, true, false, Ok, Err, length, refl, ap, sym, subst, arith}
+use Rattle.std.proofs.Common.{◌≡◌, ◌<◌, ◌∙◌, true, false, Ok, length, refl, ap, sym, subst, arith}
 use Rattle.std.proofs.lemmas.List.Elements.{All-from_get_or}
 use Rattle.cd_cbor.specs.Reading.{item_at}
 use Rattle.cd_cbor.specs.Scanning.{Passes, LiesBefore, TellsFault, Judges}
