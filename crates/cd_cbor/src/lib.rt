@@ -22,6 +22,10 @@
 //! the items that `decode_one` would read there, by how each is spelled (`specs/Telling`), and its faults are theirs
 //! (`laws::events_are_the_items`, `laws::events_follow_items`).
 //!
+//! `Scan` says of the bytes of one item, as they come, whether the item is whole, is at fault, or goes on, with no event
+//! and no copy of a string (`specs/Scanning`): for each history of calls that is what `item_at` reads of all its bytes,
+//! in which as many arrays, maps and tags may be open as the caller says. `item_end` passes over an item at an offset.
+//!
 //! The map of the key 0 with the number 500, and of the key 1 with the text "DNS", has the spelling
 //! `a2 00 19 01 f4 01 63 44 4e 53`:
 //!
