@@ -130,13 +130,7 @@ impl Waiting {
     }
 
     // The slot of the first event that agrees with this one and waits still.
-    fn agreeing(
-        &self,
-        windows: &Windows,
-        side: Side,
-        now: Stamp,
-        waiter: &Waiter,
-    ) -> Option<u32>
+    fn agreeing(&self, windows: &Windows, side: Side, now: Stamp, waiter: &Waiter) -> Option<u32>
         requires listed { IsListed self.now }
         requires rising { AreRising (waits_in self.now) }
         ensures { result ≡ slice_get
