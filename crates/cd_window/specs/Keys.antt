@@ -42,6 +42,6 @@ same_secondary items (Some x) (Some y) h = ap (λ (bytes : List ℕ). bytes ∷ 
 pub same_writes : (a b : Key) → same_key a b ≡ true → key_writes a ≡ key_writes b
 same_writes a b h =
     ap (λ (bytes : List ℕ). bytes ∷ secondary_writes (secondary_of a))
-        ((bytes_decides a.primary.items b.primary.items).0 (first_so _ _ h))
+    ((bytes_decides a.primary.items b.primary.items).0 (first_so _ _ h))
     ∙ ap (λ (rest : List (List ℕ)). b.primary.items ∷ rest)
-        (same_secondary (λ v. v.items) a.secondary b.secondary (second_so _ _ h))
+    (same_secondary (λ v. v.items) a.secondary b.secondary (second_so _ _ h))

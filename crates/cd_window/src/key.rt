@@ -29,10 +29,7 @@ impl Hash for Key {
     }
 }
 
-fn copy_of(
-    alloc: Global,
-    bytes: Option<&[u8]>,
-) -> Result<Option<SmallVec<u8, 48>>, AllocError>
+fn copy_of(alloc: Global, bytes: Option<&[u8]>) -> Result<Option<SmallVec<u8, 48>>, AllocError>
     ensures { IfOk result (λ copy.
         option_map (λ v. v.items) copy ≡ option_map (λ b. b.now) bytes.entry) }
 {

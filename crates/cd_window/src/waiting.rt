@@ -129,20 +129,28 @@ impl Waiting {
         }
     }
 
+    // Whether no event waits.
+    fn is_empty(&self) -> bool
+        requires { IsListed self.now }
+        ensures { result ≡ true → slots_in self.now ≡ [] }
+    {
+        match self.store.first(0, self.all) {
+            None => true,
+            Some(_) => false,
+        }
+    }
+
     // The slot of the first event that agrees with this one and waits still.
-    fn agreeing(
-        &self,
-        windows: &Windows,
-        side: Side,
-        now: Stamp,
-        waiter: &Waiter,
-    ) -> Option<u32>
+    fn agreeing(&self, windows: &Windows, side: Side, now: Stamp, waiter: &Waiter) -> Option<u32>
         requires listed { IsListed self.now }
         requires rising { AreRising (waits_in self.now) }
         ensures { result ≡ slice_get
             (filter (agrees_in_slot self.now.store (waits_of waiter.now))
             (open_of windows.now side now self.now.store (slots_in self.now))) 0 }
     {
+        if self.is_empty() {
+            return None;
+        }
         let store = &self.store;
         let primaries = &self.primaries;
         let exchanges = &self.exchanges;

@@ -1,7 +1,8 @@
 -- the first slot of the lists of the keys that agree, of those whose events wait still
-use Rattle.std.proofs.Common.{refl, ap, sym, ◌∙◌, subst}
+use Rattle.std.proofs.Common.{filter, refl, ap, sym, ◌∙◌, subst}
 use Rattle.std.specs.Prelude.{IsSome, slice_get}
-use Rattle.cd_window.specs.Lists.{slots_in, has_key, earlier_slot, open_of}
+use Rattle.cd_window.specs.Waiting.{waits_of}
+use Rattle.cd_window.specs.Lists.{slots_in, has_key, earlier_slot, open_of, agrees_in_slot}
 use Rattle.cd_window.proofs.Agreeing.{those_alone, first_whole, first_used, open_used, open_rising}
 use Rattle.cd_window.proofs.waiting.Waiting.agreeing.Goals as goal
 
@@ -40,3 +41,7 @@ returns-in-Some c =
     ∙ ap (earlier_slot c.args.self.now.store _) (c.first_of-absent.ensures (slots_in c.args.self.now) c.requires.listed.exchanges)
     ∙ sym (first_whole c.args.self.now.store c.args.waiter.now open_slots (open_used c.args.windows.now c.args.side c.args.now c.args.self.now c.requires.listed) (subst (λ o. IsSome o) (sym c.in-Some.is) refl)
     (open_rising c.args.windows.now c.args.side c.args.now c.args.self.now c.requires.rising))
+
+pub returns-then-is_empty : goal.returns-then-is_empty
+returns-then-is_empty c = ap (λ slots. slice_get (filter (agrees_in_slot c.args.self.now.store (waits_of c.args.waiter.now)) (open_of c.args.windows.now c.args.side c.args.now c.args.self.now.store slots)) 0)
+    (sym (c.is_empty.ensures c.if-is_empty.true))
