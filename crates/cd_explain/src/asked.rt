@@ -4,7 +4,7 @@ use cd_name::Blob;
 use std::net::Ipv6Addr;
 
 /// A layer, by the word that asks for it.
-#[derive(Clone, Copy, Debug, PartialEq, Eq)]
+#[derive(Clone, Copy, PartialEq, Eq)]
 pub enum Asked {
     Name,
     Message,
@@ -22,31 +22,36 @@ pub enum Asked {
     Numbers,
 }
 
-impl Asked {
-    // The layer that a word asks for.
-    fn named(word: &[u8]) -> Option<Asked> {
-        match word {
-            b"name" => Some(Asked::Name),
-            b"message" => Some(Asked::Message),
-            b"packets" => Some(Asked::Packets),
-            b"layers" => Some(Asked::Layers),
-            b"events" => Some(Asked::Events),
-            b"pairs" => Some(Asked::Pairs),
-            b"released" => Some(Asked::Released),
-            b"records" => Some(Asked::Records),
-            b"file" => Some(Asked::File),
-            b"cbor" => Some(Asked::Cbor),
-            b"words" => Some(Asked::Words),
-            b"prefix" => Some(Asked::Prefix),
-            b"checksum" => Some(Asked::Checksum),
-            b"numbers" => Some(Asked::Numbers),
-            _ => None,
+// Each layer with its word.
+const LAYERS: [(&[u8], Asked); 14] = [
+    (b"name", Asked::Name),
+    (b"message", Asked::Message),
+    (b"packets", Asked::Packets),
+    (b"layers", Asked::Layers),
+    (b"events", Asked::Events),
+    (b"pairs", Asked::Pairs),
+    (b"released", Asked::Released),
+    (b"records", Asked::Records),
+    (b"file", Asked::File),
+    (b"cbor", Asked::Cbor),
+    (b"words", Asked::Words),
+    (b"prefix", Asked::Prefix),
+    (b"checksum", Asked::Checksum),
+    (b"numbers", Asked::Numbers),
+];
+
+// The layer of these that a word asks for.
+fn named(layers: &[(&[u8], Asked)], word: &[u8]) -> Option<Asked> {
+    for (name, asked) in layers {
+        if *name == word {
+            return Some(*asked);
         }
     }
+    None
 }
 
 /// A layer, how the standard input is taken for it, and its own words.
-#[derive(Debug, Drop)]
+#[derive(Drop)]
 pub struct Request<'a> {
     pub asked: Asked,
     /// Whether each line is an input of its own, in hexadecimal.
@@ -77,31 +82,50 @@ fn octets_of(word: &[u8]) -> Option<[u8; 16]> {
     }
 }
 
+// Whether a word comes first, and the words after it.
+fn flag<'a>(words: &'a [Blob], name: &[u8]) -> (bool, &'a [Blob]) {
+    match words {
+        [first, tail @ ..] if first.as_slice() == name => (true, tail),
+        _ => (false, words),
+    }
+}
+
+// What stands after a word, where the word comes first and something does, and the words after both.
+fn value<'a>(words: &'a [Blob], name: &[u8]) -> (Option<&'a Blob>, &'a [Blob]) {
+    match words {
+        [first, second, tail @ ..] if first.as_slice() == name => (Some(second), tail),
+        _ => (None, words),
+    }
+}
+
+// The size of the chunks that a word says, and 0 without a word.
+fn chunk_of(word: Option<&Blob>) -> Option<usize> {
+    match word {
+        Some(word) => number_of(word.as_slice()),
+        None => Some(0),
+    }
+}
+
+// The prefix that a word says. None where the word says none.
+fn prefix_of(word: Option<&Blob>) -> Option<Option<[u8; 16]>> {
+    match word {
+        Some(word) => match octets_of(word.as_slice()) {
+            Some(octets) => Some(Some(octets)),
+            None => None,
+        },
+        None => Some(None),
+    }
+}
+
 /// Reads the layer, `--hex`, `--chunk N` and `--ipv6 PREFIX`, and leaves the words after them to the layer.
 pub fn request_of(words: &[Blob]) -> Option<Request<'_>> {
-    let (layer, mut rest) = words.split_first()?;
-    let asked = Asked::named(layer.as_slice())?;
-    let mut hex = false;
-    let mut chunk = 0;
-    if let [first, tail @ ..] = rest {
-        if first.as_slice() == b"--hex".as_slice() {
-            hex = true;
-            rest = tail;
-        }
-    }
-    if let [first, second, tail @ ..] = rest {
-        if first.as_slice() == b"--chunk".as_slice() {
-            chunk = number_of(second.as_slice())?;
-            rest = tail;
-        }
-    }
-    let mut ipv6 = None;
-    if let [first, second, tail @ ..] = rest {
-        if first.as_slice() == b"--ipv6".as_slice() {
-            ipv6 = Some(octets_of(second.as_slice())?);
-            rest = tail;
-        }
-    }
+    let (layer, rest) = words.split_first()?;
+    let asked = named(&LAYERS, layer.as_slice())?;
+    let (hex, rest) = flag(rest, b"--hex");
+    let (chunk, rest) = value(rest, b"--chunk");
+    let (ipv6, rest) = value(rest, b"--ipv6");
+    let chunk = chunk_of(chunk)?;
+    let ipv6 = prefix_of(ipv6)?;
     Some(Request {
         asked,
         hex,

@@ -1,4 +1,4 @@
-use Rattle.std.proofs.Common.{◌≡◌, ℕ, ◌+◌, ◌∙◌, List, length, take, drop, ap, sym, arith}
+use Rattle.std.proofs.Common.{◌≡◌, ℕ, ◌∙◌, List, length, drop, ap, sym, arith}
 use Rattle.std.proofs.lemmas.List.{drop-drop, take_rest, length-drop, length-take-le}
 use Rattle.cd_packet.specs.declared.packet.Packet.{Packet}
 use Rattle.cd_pcap.specs.Fronts.{HasRecord}
