@@ -6,5 +6,7 @@ pub mod Sound
 pub mod Stepping
 pub mod Steps
 pub mod Loops
+pub mod Choosing
+pub mod Listed
 pub mod Built
 pub mod Once

@@ -5,7 +5,7 @@ use Rattle.cd_table.specs.declared.tables.Tables.{Tables}
 use Rattle.cd_table.specs.Growing.{Growing, each, in_front}
 
 -- a step for a value in front of others
-each_cons : {A B : Type 0} (step : A → Growing B) (x : A) (xs : List A) (front : List B) (t : Tables) → in_front front (each step (x ∷ xs) t) ≡ in_front (front ++ (step x t).value ∷ []) (each step xs (step x t).tables)
+pub each_cons : {A B : Type 0} (step : A → Growing B) (x : A) (xs : List A) (front : List B) (t : Tables) → in_front front (each step (x ∷ xs) t) ≡ in_front (front ++ (step x t).value ∷ []) (each step xs (step x t).tables)
 unfolding each
 each_cons step x xs front t =
     let rest = each step xs (step x t).tables in

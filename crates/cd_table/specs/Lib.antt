@@ -1,4 +1,5 @@
 pub mod Interning
 pub mod Equality
 pub mod Growing
+pub mod Indexes
 pub mod Once

@@ -3,6 +3,7 @@
 ghost use Rattle.std.specs.Prelude.{◌≡◌, OnOk, IfOk};
 ghost use Rattle.cd_table.specs.Growing.{each, if_present, put_signature, put_item, signature_at, item_at};
 
+use crate::lent_bytes::{bytes_of, name_bytes};
 use crate::records::put_lists;
 use crate::tables::Tables;
 use cd_block::{BlockItem, BlockLists, BlockSig, KeptItem, KeptSig};
@@ -43,9 +44,9 @@ fn put_signature(tables: &mut Tables, kept: &KeptSig) -> Result<u64, AllocError>
     ensures tables { OnOk result (tables.new ≡ (put_signature kept.now tables.old).tables) }
     ensures index { IfOk result (λ index. index ≡ (put_signature kept.now tables.old).value) }
 {
-    let server_address = tables.put_address(&kept.server_address)?;
-    let classtype = tables.put_lead_classtype(kept.classtype)?;
-    let opt_rdata = tables.put_rdata(&kept.opt_rdata)?;
+    let server_address = tables.put_optional_address(bytes_of(&kept.server_address))?;
+    let classtype = tables.put_optional_classtype(kept.classtype)?;
+    let opt_rdata = tables.put_optional_bytes(bytes_of(&kept.opt_rdata))?;
     tables.put_block_signature(signature_at(kept, server_address, classtype, opt_rdata))
 }
 
@@ -96,9 +97,9 @@ fn put_item(tables: &mut Tables, alloc: Global, kept: &KeptItem) -> Result<Block
     ensures tables { OnOk result (tables.new ≡ (put_item kept.now tables.old).tables) }
     ensures placed { IfOk result (λ placed. placed ≡ (put_item kept.now tables.old).value) }
 {
-    let client_address = tables.put_address(&kept.client_address)?;
+    let client_address = tables.put_optional_address(bytes_of(&kept.client_address))?;
     let signature = put_item_signature(tables, &kept.signature)?;
-    let query_name = tables.put_name(&kept.query_name)?;
+    let query_name = tables.put_optional_bytes(name_bytes(&kept.query_name))?;
     let query_extended = put_lists(tables, alloc, &kept.query_extended)?;
     let response_extended = put_lists(tables, alloc, &kept.response_extended)?;
     Ok(item_at(

@@ -19,6 +19,7 @@
 mod building;
 mod items;
 pub mod laws;
+mod lent_bytes;
 mod malformed;
 mod records;
 mod slice_table;
@@ -26,3 +27,5 @@ mod tables;
 mod value_table;
 
 pub use building::build;
+pub use malformed::put_malformed;
+pub use tables::Tables;

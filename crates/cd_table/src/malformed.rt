@@ -3,6 +3,7 @@
 ghost use Rattle.std.specs.Prelude.{◌≡◌, OnOk, IfOk};
 ghost use Rattle.cd_table.specs.Growing.{each, if_present, put_data, put_malformed, data_at};
 
+use crate::lent_bytes::bytes_of;
 use crate::tables::Tables;
 use cd_block::{BlockData, BlockMalformed, KeptData, KeptMalformed};
 use cd_name::Blob;
@@ -44,7 +45,7 @@ fn put_data(tables: &mut Tables, alloc: Global, kept: &KeptData) -> Result<u64, 
     ensures tables { OnOk result (tables.new ≡ (put_data kept.now tables.old).tables) }
     ensures index { IfOk result (λ index. index ≡ (put_data kept.now tables.old).value) }
 {
-    let server_address = tables.put_address(&kept.server_address)?;
+    let server_address = tables.put_optional_address(bytes_of(&kept.server_address))?;
     let placed = data_at(alloc, kept, server_address)?;
     tables.put_block_data(placed)
 }
@@ -64,9 +65,9 @@ fn put_message_data(
     }
 }
 
-// Puts the values of a malformed message, and gives the message with their indexes.
+/// Puts the values of a malformed message, and gives the message with their indexes. An `Err` is for want of memory.
 #[tactic(auto, unfolding(crate::specs::Growing::put_malformed))]
-fn put_malformed(
+pub fn put_malformed(
     tables: &mut Tables,
     alloc: Global,
     kept: &KeptMalformed,
@@ -74,7 +75,7 @@ fn put_malformed(
     ensures tables { OnOk result (tables.new ≡ (put_malformed kept.now tables.old).tables) }
     ensures placed { IfOk result (λ placed. placed ≡ (put_malformed kept.now tables.old).value) }
 {
-    let client_address = tables.put_address(&kept.client_address)?;
+    let client_address = tables.put_optional_address(bytes_of(&kept.client_address))?;
     let message_data = put_message_data(tables, alloc, &kept.message_data)?;
     Ok(BlockMalformed {
         time_offset: kept.time_offset,

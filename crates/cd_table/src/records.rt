@@ -1,21 +1,71 @@
 //! Questions and resource records, and the extended parts that list them (RFC 8618 7.3.2.3.3, 7.3.2.3.4, 7.3.2.4.2).
 
 ghost use Rattle.std.specs.Prelude.{◌≡◌, OnOk, IfOk};
+ghost use Rattle.std.specs.Option.{option_map};
 ghost use Rattle.cd_table.specs.Growing.{each, put_question, put_questions, put_record, put_records, put_lists};
 
+use crate::lent_bytes::bytes_of;
 use crate::tables::Tables;
 use cd_block::{BlockLists, BlockQuestion, BlockRr, KeptLists, KeptQuestion, KeptRr};
 use std::alloc::{AllocError, Global};
 
+impl Tables {
+    /// The index of a question of this name, type and class.
+    #[tactic(auto, unfolding(crate::specs::Growing::put_question))]
+    pub fn put_question(&mut self, name: &[u8], rtype: u16, rclass: u16) -> Result<u64, AllocError>
+        ensures tables { OnOk result (self.new ≡
+            (put_question (record { name = name.now; rtype = rtype; rclass = rclass }) self.old).tables) }
+        ensures index { IfOk result (λ index. index ≡
+            (put_question (record { name = name.now; rtype = rtype; rclass = rclass }) self.old).value) }
+    {
+        let name = self.put_bytes(name)?;
+        let classtype = self.put_classtype((rtype, rclass))?;
+        self.put_block_question(BlockQuestion { name, classtype })
+    }
+
+    /// The index of a resource record of this name, type, class, TTL and RDATA.
+    #[tactic(auto, unfolding(crate::specs::Growing::put_record))]
+    pub fn put_record(
+        &mut self,
+        name: &[u8],
+        rtype: u16,
+        rclass: u16,
+        ttl: Option<u64>,
+        rdata: Option<&[u8]>,
+    ) -> Result<u64, AllocError>
+        ensures tables { OnOk result (self.new ≡ (put_record (record {
+          name = name.now;
+          rtype = rtype;
+          rclass = rclass;
+          ttl = ttl;
+          rdata = option_map (λ b. b.now) rdata.entry;
+        }) self.old).tables) }
+        ensures index { IfOk result (λ index. index ≡ (put_record (record {
+          name = name.now;
+          rtype = rtype;
+          rclass = rclass;
+          ttl = ttl;
+          rdata = option_map (λ b. b.now) rdata.entry;
+        }) self.old).value) }
+    {
+        let name = self.put_bytes(name)?;
+        let classtype = self.put_classtype((rtype, rclass))?;
+        let rdata = self.put_optional_bytes(rdata)?;
+        self.put_block_record(BlockRr {
+            name,
+            classtype,
+            ttl,
+            rdata,
+        })
+    }
+}
+
 // Puts a question and its parts, and gives its index.
-#[tactic(auto, unfolding(crate::specs::Growing::put_question))]
-fn put_question(tables: &mut Tables, question: &KeptQuestion) -> Result<u64, AllocError>
+fn put_kept_question(tables: &mut Tables, question: &KeptQuestion) -> Result<u64, AllocError>
     ensures tables { OnOk result (tables.new ≡ (put_question question.now tables.old).tables) }
     ensures index { IfOk result (λ index. index ≡ (put_question question.now tables.old).value) }
 {
-    let name = tables.put_bytes(question.name.as_slice())?;
-    let classtype = tables.put_classtype((question.rtype, question.rclass))?;
-    tables.put_block_question(BlockQuestion { name, classtype })
+    tables.put_question(question.name.as_slice(), question.rtype, question.rclass)
 }
 
 // Puts questions and their parts, and gives their indexes.
@@ -29,7 +79,7 @@ fn put_each_question(
 {
     let mut indexes = Vec::with_capacity(alloc, questions.len())?;
     'questions: for question in questions {
-        let index = put_question(tables, question)?;
+        let index = put_kept_question(tables, question)?;
         indexes.push(index)?;
     }
     Ok(indexes)
@@ -49,26 +99,24 @@ fn put_questions(
         [] => Ok(None),
         [_, ..] => {
             let indexes = put_each_question(tables, alloc, questions)?;
-            Ok(Some(tables.put_question_indexes(indexes)?))
+            Ok(Some(tables.put_question_indexes(indexes.as_slice())?))
         }
     }
 }
 
 // Puts a resource record and its parts, and gives its index.
-#[tactic(auto, unfolding(crate::specs::Growing::put_record))]
-fn put_record(tables: &mut Tables, kept: &KeptRr) -> Result<u64, AllocError>
+fn put_kept_record(tables: &mut Tables, kept: &KeptRr) -> Result<u64, AllocError>
     ensures tables { OnOk result (tables.new ≡ (put_record kept.now tables.old).tables) }
     ensures index { IfOk result (λ index. index ≡ (put_record kept.now tables.old).value) }
 {
-    let name = tables.put_bytes(kept.name.as_slice())?;
-    let classtype = tables.put_classtype((kept.rtype, kept.rclass))?;
-    let rdata = tables.put_rdata(&kept.rdata)?;
-    tables.put_block_record(BlockRr {
-        name,
-        classtype,
-        ttl: kept.ttl,
+    let rdata = bytes_of(&kept.rdata);
+    tables.put_record(
+        kept.name.as_slice(),
+        kept.rtype,
+        kept.rclass,
+        kept.ttl,
         rdata,
-    })
+    )
 }
 
 // Puts resource records and their parts, and gives their indexes.
@@ -82,7 +130,7 @@ fn put_each_record(
 {
     let mut indexes = Vec::with_capacity(alloc, records.len())?;
     'records: for kept in records {
-        let index = put_record(tables, kept)?;
+        let index = put_kept_record(tables, kept)?;
         indexes.push(index)?;
     }
     Ok(indexes)
@@ -102,7 +150,7 @@ fn put_records(
         [] => Ok(None),
         [_, ..] => {
             let indexes = put_each_record(tables, alloc, records)?;
-            Ok(Some(tables.put_record_indexes(indexes)?))
+            Ok(Some(tables.put_record_indexes(indexes.as_slice())?))
         }
     }
 }

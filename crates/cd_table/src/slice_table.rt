@@ -5,6 +5,7 @@ ghost use Rattle.std.specs.List.{position, position_or_len};
 ghost use Rattle.std.specs.Cmp.Lexicographic.{pointwise};
 ghost use Rattle.cd_table.specs.Interning.{put};
 
+use cd_hash::ByteHash;
 use cd_name::{Blob, List};
 use indexmap::IndexSet;
 use std::alloc::{AllocError, Global};
@@ -14,7 +15,7 @@ use std::marker::Model;
 /// Lists, each once, in the order in which they were put. Contracts see it as their list.
 #[derive(Drop)]
 pub struct SliceTable<T: Eq + Hash> {
-    values: IndexSet<Vec<T>>,
+    values: IndexSet<Vec<T>, ByteHash>,
     alloc: Global,
 }
 
@@ -35,7 +36,7 @@ impl<T: Copy + Eq + Hash> SliceTable<T> {
         ensures { result ≡ [] }
     {
         SliceTable {
-            values: IndexSet::new(alloc),
+            values: IndexSet::with_hasher(alloc, ByteHash::new()),
             alloc,
         }
     }
@@ -47,8 +48,8 @@ impl<T: Copy + Eq + Hash> SliceTable<T> {
         self.values.get_index_of(items)
     }
 
-    /// The index, from 0, of a list, which is put last if it is not there. An `Err` says that no memory was found.
-    pub fn insert(&mut self, items: Vec<T>) -> Result<u64, AllocError>
+    // The same of a list that is not copied.
+    fn insert(&mut self, items: Vec<T>) -> Result<u64, AllocError>
         ensures table { OnOk result (self.new ≡ put (pointwise T.eq) self.old items.items) }
         ensures index { IfOk result (λ index. index ≡ position_or_len (pointwise T.eq items.items) self.old) }
     {

@@ -1,6 +1,8 @@
 //! The nine tables of a block as they grow (RFC 8618 7.3.2.3).
 
 ghost use Rattle.std.specs.Prelude.{◌≡◌, OnOk, IfOk};
+ghost use Rattle.std.specs.Option.{option_map};
+ghost use Rattle.cd_table.specs.Indexes.{put_question_list, put_record_list};
 ghost use Rattle.cd_table.specs.Growing.{if_present, put_address, put_classtype, put_bytes, put_block_signature, put_question_indexes, put_record_indexes, put_block_question, put_block_record, put_block_data, no_tables, block_of};
 
 use crate::slice_table::SliceTable;
@@ -8,12 +10,13 @@ use crate::value_table::ValueTable;
 use cd_block::{
     Block, BlockData, BlockItem, BlockMalformed, BlockQuestion, BlockRr, BlockSig, KeptBlock,
 };
-use cd_name::{Blob, List, Name};
+use cd_name::{Blob, List};
 use std::alloc::{AllocError, Global};
 
-/// The tables of a block as they grow: each value once, in the order in which they were put.
+/// The tables of a block as they grow: each value once, in the order in which they were put. A value is looked up where it
+/// lies, and copied only where it is new. An `Err` of any call is for want of memory, and the tables are of no more use then.
 #[derive(Drop)]
-pub(crate) struct Tables {
+pub struct Tables {
     pub(crate) ip_address: SliceTable<u8>,
     pub(crate) classtype: ValueTable<(u16, u16)>,
     pub(crate) name_rdata: SliceTable<u8>,
@@ -27,7 +30,7 @@ pub(crate) struct Tables {
 
 impl Tables {
     /// Tables that hold nothing.
-    pub(crate) fn new(alloc: Global) -> Tables
+    pub fn new(alloc: Global) -> Tables
         ensures { result ≡ no_tables }
     {
         Tables {
@@ -43,9 +46,9 @@ impl Tables {
         }
     }
 
-    // The index of an address.
+    /// The index of an address.
     #[tactic(auto, unfolding(crate::specs::Growing::put_address))]
-    fn put_address_bytes(&mut self, bytes: &[u8]) -> Result<u64, AllocError>
+    pub fn put_address(&mut self, bytes: &[u8]) -> Result<u64, AllocError>
         ensures tables { OnOk result (self.new ≡ (put_address bytes.now self.old).tables) }
         ensures index { IfOk result (λ index. index ≡ (put_address bytes.now self.old).value) }
     {
@@ -53,19 +56,24 @@ impl Tables {
     }
 
     /// The index of an address, where there is one.
-    pub(crate) fn put_address(&mut self, address: &Option<Blob>) -> Result<Option<u64>, AllocError>
-        ensures tables { OnOk result (self.new ≡ (if_present put_address address.now self.old).tables) }
-        ensures index { IfOk result (λ index. index ≡ (if_present put_address address.now self.old).value) }
+    pub fn put_optional_address(
+        &mut self,
+        address: Option<&[u8]>,
+    ) -> Result<Option<u64>, AllocError>
+        ensures tables { OnOk result (self.new ≡
+            (if_present put_address (option_map (λ b. b.now) address.entry) self.old).tables) }
+        ensures index { IfOk result (λ index. index ≡
+            (if_present put_address (option_map (λ b. b.now) address.entry) self.old).value) }
     {
         match address {
-            Some(address) => Ok(Some(self.put_address_bytes(address.as_slice())?)),
+            Some(address) => Ok(Some(self.put_address(address)?)),
             None => Ok(None),
         }
     }
 
     /// The index of a type and a class.
     #[tactic(auto, unfolding(crate::specs::Growing::put_classtype))]
-    pub(crate) fn put_classtype(&mut self, classtype: (u16, u16)) -> Result<u64, AllocError>
+    pub fn put_classtype(&mut self, classtype: (u16, u16)) -> Result<u64, AllocError>
         ensures tables { OnOk result (self.new ≡ (put_classtype classtype self.old).tables) }
         ensures index { IfOk result (λ index. index ≡ (put_classtype classtype self.old).value) }
     {
@@ -73,7 +81,7 @@ impl Tables {
     }
 
     /// The index of a type and a class, where there are these.
-    pub(crate) fn put_lead_classtype(
+    pub fn put_optional_classtype(
         &mut self,
         classtype: Option<(u16, u16)>,
     ) -> Result<Option<u64>, AllocError>
@@ -86,40 +94,31 @@ impl Tables {
         }
     }
 
-    /// The index of a name or of RDATA.
+    /// The index of a name, of RDATA or of options.
     #[tactic(auto, unfolding(crate::specs::Growing::put_bytes))]
-    pub(crate) fn put_bytes(&mut self, bytes: &[u8]) -> Result<u64, AllocError>
+    pub fn put_bytes(&mut self, bytes: &[u8]) -> Result<u64, AllocError>
         ensures tables { OnOk result (self.new ≡ (put_bytes bytes.now self.old).tables) }
         ensures index { IfOk result (λ index. index ≡ (put_bytes bytes.now self.old).value) }
     {
         self.name_rdata.put(bytes)
     }
 
-    /// The index of a name, where there is one.
-    pub(crate) fn put_name(&mut self, name: &Option<Name>) -> Result<Option<u64>, AllocError>
-        ensures tables { OnOk result (self.new ≡ (if_present put_bytes name.now self.old).tables) }
-        ensures index { IfOk result (λ index. index ≡ (if_present put_bytes name.now self.old).value) }
+    /// The index of a name, of RDATA or of options, where there are these.
+    pub fn put_optional_bytes(&mut self, bytes: Option<&[u8]>) -> Result<Option<u64>, AllocError>
+        ensures tables { OnOk result (self.new ≡
+            (if_present put_bytes (option_map (λ b. b.now) bytes.entry) self.old).tables) }
+        ensures index { IfOk result (λ index. index ≡
+            (if_present put_bytes (option_map (λ b. b.now) bytes.entry) self.old).value) }
     {
-        match name {
-            Some(name) => Ok(Some(self.put_bytes(name.as_slice())?)),
-            None => Ok(None),
-        }
-    }
-
-    /// The index of RDATA, where there is any.
-    pub(crate) fn put_rdata(&mut self, rdata: &Option<Blob>) -> Result<Option<u64>, AllocError>
-        ensures tables { OnOk result (self.new ≡ (if_present put_bytes rdata.now self.old).tables) }
-        ensures index { IfOk result (λ index. index ≡ (if_present put_bytes rdata.now self.old).value) }
-    {
-        match rdata {
-            Some(rdata) => Ok(Some(self.put_bytes(rdata.as_slice())?)),
+        match bytes {
+            Some(bytes) => Ok(Some(self.put_bytes(bytes)?)),
             None => Ok(None),
         }
     }
 
     /// The index of a signature that has the indexes of its parts.
     #[tactic(auto, unfolding(crate::specs::Growing::put_block_signature))]
-    pub(crate) fn put_block_signature(&mut self, signature: BlockSig) -> Result<u64, AllocError>
+    pub fn put_block_signature(&mut self, signature: BlockSig) -> Result<u64, AllocError>
         ensures tables { OnOk result (self.new ≡ (put_block_signature signature self.old).tables) }
         ensures index { IfOk result (λ index. index ≡ (put_block_signature signature self.old).value) }
     {
@@ -128,43 +127,67 @@ impl Tables {
 
     /// The index of a question that has the indexes of its parts.
     #[tactic(auto, unfolding(crate::specs::Growing::put_block_question))]
-    pub(crate) fn put_block_question(&mut self, question: BlockQuestion) -> Result<u64, AllocError>
+    pub fn put_block_question(&mut self, question: BlockQuestion) -> Result<u64, AllocError>
         ensures tables { OnOk result (self.new ≡ (put_block_question question self.old).tables) }
         ensures index { IfOk result (λ index. index ≡ (put_block_question question self.old).value) }
     {
         self.qrr.put(question)
     }
 
-    /// The index of a list of questions, which is given by their indexes.
+    // The index of a list of questions, which is given by their indexes.
     #[tactic(auto, unfolding(crate::specs::Growing::put_question_indexes))]
-    pub(crate) fn put_question_indexes(&mut self, indexes: Vec<u64>) -> Result<u64, AllocError>
-        ensures tables { OnOk result (self.new ≡ (put_question_indexes indexes.items self.old).tables) }
-        ensures index { IfOk result (λ index. index ≡ (put_question_indexes indexes.items self.old).value) }
+    pub(crate) fn put_question_indexes(&mut self, indexes: &[u64]) -> Result<u64, AllocError>
+        ensures tables { OnOk result (self.new ≡ (put_question_indexes indexes.now self.old).tables) }
+        ensures index { IfOk result (λ index. index ≡ (put_question_indexes indexes.now self.old).value) }
     {
-        self.qlist.insert(indexes)
+        self.qlist.put(indexes)
+    }
+
+    /// The index of a list of questions, which is given by their indexes. An empty list is an absent one.
+    #[tactic(auto, unfolding(crate::specs::Indexes::put_question_list))]
+    pub fn put_question_list(&mut self, indexes: &[u64]) -> Result<Option<u64>, AllocError>
+        ensures tables { OnOk result (self.new ≡ (put_question_list indexes.now self.old).tables) }
+        ensures index { IfOk result (λ index. index ≡ (put_question_list indexes.now self.old).value) }
+    {
+        match indexes {
+            [] => Ok(None),
+            [_, ..] => Ok(Some(self.put_question_indexes(indexes)?)),
+        }
     }
 
     /// The index of a resource record that has the indexes of its parts.
     #[tactic(auto, unfolding(crate::specs::Growing::put_block_record))]
-    pub(crate) fn put_block_record(&mut self, placed: BlockRr) -> Result<u64, AllocError>
+    pub fn put_block_record(&mut self, placed: BlockRr) -> Result<u64, AllocError>
         ensures tables { OnOk result (self.new ≡ (put_block_record placed self.old).tables) }
         ensures index { IfOk result (λ index. index ≡ (put_block_record placed self.old).value) }
     {
         self.rr.put(placed)
     }
 
-    /// The index of a list of resource records, which is given by their indexes.
+    // The index of a list of resource records, which is given by their indexes.
     #[tactic(auto, unfolding(crate::specs::Growing::put_record_indexes))]
-    pub(crate) fn put_record_indexes(&mut self, indexes: Vec<u64>) -> Result<u64, AllocError>
-        ensures tables { OnOk result (self.new ≡ (put_record_indexes indexes.items self.old).tables) }
-        ensures index { IfOk result (λ index. index ≡ (put_record_indexes indexes.items self.old).value) }
+    pub(crate) fn put_record_indexes(&mut self, indexes: &[u64]) -> Result<u64, AllocError>
+        ensures tables { OnOk result (self.new ≡ (put_record_indexes indexes.now self.old).tables) }
+        ensures index { IfOk result (λ index. index ≡ (put_record_indexes indexes.now self.old).value) }
     {
-        self.rrlist.insert(indexes)
+        self.rrlist.put(indexes)
+    }
+
+    /// The index of a list of resource records, which is given by their indexes. An empty list is an absent one.
+    #[tactic(auto, unfolding(crate::specs::Indexes::put_record_list))]
+    pub fn put_record_list(&mut self, indexes: &[u64]) -> Result<Option<u64>, AllocError>
+        ensures tables { OnOk result (self.new ≡ (put_record_list indexes.now self.old).tables) }
+        ensures index { IfOk result (λ index. index ≡ (put_record_list indexes.now self.old).value) }
+    {
+        match indexes {
+            [] => Ok(None),
+            [_, ..] => Ok(Some(self.put_record_indexes(indexes)?)),
+        }
     }
 
     /// The index of the data of a malformed message that has the index of its part.
     #[tactic(auto, unfolding(crate::specs::Growing::put_block_data))]
-    pub(crate) fn put_block_data(&mut self, placed: BlockData) -> Result<u64, AllocError>
+    pub fn put_block_data(&mut self, placed: BlockData) -> Result<u64, AllocError>
         ensures tables { OnOk result (self.new ≡ (put_block_data placed self.old).tables) }
         ensures index { IfOk result (λ index. index ≡ (put_block_data placed self.old).value) }
     {
@@ -172,7 +195,7 @@ impl Tables {
     }
 
     /// The block that has these tables, these items and these malformed messages, and all else from a kept block.
-    pub(crate) fn into_block(
+    pub fn into_block(
         self,
         alloc: Global,
         kept: &KeptBlock,

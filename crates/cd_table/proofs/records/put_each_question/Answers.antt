@@ -6,7 +6,7 @@ use Rattle.cd_table.proofs.records.put_each_question.Goals as goal
 
 pub questions-preserved : goal.questions-preserved
 questions-preserved c =
-    each_turn put_question c.args.questions.now c.args.questions.now c.questions.question-index c.question-item.result c.in_ok-index.index c.questions.indexes.items c.push.new.self.items c.args.tables.now c.questions.tables c.put_question.new.tables
+    each_turn put_question c.args.questions.now c.args.questions.now c.questions.question-index c.question-item.result c.in_ok-index.index c.questions.indexes.items c.push.new.self.items c.args.tables.now c.questions.tables c.put_kept_question.new.tables
     c.questions.invariant c.questions-test.true c.question-item.is c.in_ok-push.ensures.items c.in_ok-index.ensures.index c.in_ok-index.ensures.tables
 
 pub returns-clause-tables : goal.returns-clause-tables
