@@ -64,7 +64,6 @@ pub use item_reading::{MOST_DEPTH, decode_one};
 pub use major_type::MajorType;
 pub use reader::Reader;
 pub use scan::{Due, Judged, Scan, item_end};
-pub use string_reading::MOST_STRING;
 pub use string_reading::{MOST_STRING, chunks_at, content_at};
 pub use values::{push_bytes, push_integer, push_negative, push_text, push_unsigned};
 pub use wanted::Wanted;
