@@ -1,11 +1,11 @@
 -- What an item is that stands at an offset, by its head, and what the items in it are, one after another.
 use Rattle.std.proofs.Common.{◌≡◌, ℕ, zero, suc, ◌+◌, ◌-◌, ◌/◌, ◌%◌, ◌<◌, ◌≤◌, Bool, true, false, cond, List, [], ◌∷◌, length, drop, Option, Some, None, Result, Ok, Err, inl, inr, refl, ap, sym, subst, ◌∙◌, arith}
 use Rattle.std.specs.Prelude.{nat_lt, nat_eq, slice_index, ◌&&◌}
-use Rattle.std.proofs.lemmas.Bool.{cases_lt, lt-ltb, le-ltb, ltb-false}
+use Rattle.std.proofs.lemmas.Bool.{cases_lt, lt-ltb, le-ltb, ltb-false, ne_eqb}
 use Rattle.cd_cbor.specs.Heads.{major_type}
 use Rattle.cd_cbor.specs.Items.{unsigned, negative, bytes as bytes_item, text, array, entries}
 use Rattle.cd_cbor.specs.Spells.{other, most_string, is_content}
-use Rattle.cd_cbor.specs.Readings.{Reading, ◌>>=◌, refused, piece, byte_at, times, until_break}
+use Rattle.cd_cbor.specs.Readings.{Reading, ◌>>=◌, refused, piece, byte_at, times, until_break, GivesFault, LiesWithin}
 use Rattle.cd_cbor.specs.Reading.{ItemReader, argument_at, content_at, string_at, chunks_at, definite_string_at, chunked_string_at, simple_at, entry_at, array_at, map_at, tagged_at, open_array_at, open_map_at, definite_at, indefinite_at, item_by, item_at}
 use Rattle.cd_cbor.specs.declared.item.Item.{Item}
 use Rattle.cd_cbor.specs.declared.item.Item.TheViews.{out-Item, out-roll-Item}
@@ -14,10 +14,12 @@ use Rattle.cd_cbor.specs.declared.item.Item.TheVariants.{rolls-Uint, rolls-Nint,
 use Rattle.cd_cbor.specs.declared.fault.Why.{Why}
 use Rattle.cd_cbor.specs.declared.fault.Why.TheVariants as why
 use Rattle.cd_cbor.specs.declared.fault.CborFault.{CborFault}
+use Rattle.cd_cbor.specs.declared.fault.CborFault.TheVariants as fault
 use Rattle.cd_cbor.specs.declared.major_type.MajorType.{MajorType}
 use Rattle.cd_cbor.specs.declared.major_type.MajorType.TheVariants as major
 use Rattle.cd_cbor.proofs.Binds.{bind_ok, ok_same, not_ok, if_err_else}
 use Rattle.cd_cbor.proofs.Depths.{item_at_is}
+use Rattle.cd_file.specs.Kinds.{unsigned_in}
 use Rattle.cd_file.specs.ReadFile.{begins_with_break}
 use Rattle.cd_file.specs.ItemReading.{ItemAt, ItemsAt, PairsAt, HeadOf, ended_at}
 
@@ -106,6 +108,10 @@ item_any : (depth : ℕ) (bytes : List ℕ) (broken : Why) (at : ℕ) (x : Item 
 item_any depth bytes broken at x h =
     item_at_is depth bytes why.Break at ∙ by_any depth (item_at (depth - 1) bytes) broken at bytes x (sym (item_at_is depth bytes broken at) ∙ h)
 
+-- items that are left are not at their end
+more_left : (count : ℕ) (bytes : List ℕ) (at : ℕ) → ended_at (Some (suc count)) bytes at ≡ None
+more_left count bytes at = rw (ne_eqb (suc count) 0 (λ e. omega arith)) refl
+
 -- so many items
 times_items : (depth : ℕ) (bytes : List ℕ) (count at : ℕ) (items : List Item) (end : ℕ) → times count (item_at depth bytes why.Break) at ≡ Ok (items, end) → ItemsAt depth bytes (Some count) at items end
 unfolding times
@@ -118,7 +124,7 @@ times_items depth bytes (suc count) at items end h =
     let rest : ItemsAt depth bytes (Some (suc count - 1)) first.0.1 others.0.0 others.0.1 =
     rw less (times_items depth bytes count first.0.1 others.0.0 others.0.1 others.1) in
     subst (λ p. ItemsAt depth bytes (Some (suc count)) at p.0 p.1) (ok_same (first.0.0 ∷ others.0.0, others.0.1) (items, end) others.2)
-    (refl, (first.0.1, first.1, rest))
+    (more_left count bytes at, (first.0.1, first.1, rest))
 
 -- items up to a break: the next byte is one, or an item comes
 module _ (depth : ℕ) (bytes : List ℕ) (at byte : ℕ) (there : byte_at at bytes ≡ Ok byte) where
@@ -172,7 +178,7 @@ times_pairs depth bytes (suc count) at pairs end h =
     let rest : PairsAt depth bytes (Some (suc count - 1)) first.0.1 others.0.0 others.0.1 =
     rw less (times_pairs depth bytes count first.0.1 others.0.0 others.0.1 others.1) in
     subst (λ p. PairsAt depth bytes (Some (suc count)) at p.0 p.1) (ok_same (first.0.0 ∷ others.0.0, others.0.1) (pairs, end) others.2)
-    (refl, (parts.0, first.0.1, parts.1, parts.2, rest))
+    (more_left count bytes at, (parts.0, first.0.1, parts.1, parts.2, rest))
 
 -- pairs up to a break
 until_pairs : (depth : ℕ) (bytes : List ℕ) (left at : ℕ) (pairs : List (Item × Item)) (end : ℕ) →
@@ -216,7 +222,7 @@ string_of bytes is_text info at n next x a h =
 
 -- what an item is behind a head with an argument
 module _ (depth : ℕ) (bytes : List ℕ) (info at n next : ℕ) (item : Item) (end : ℕ) (a : argument_at info at bytes ≡ Ok (n, next)) where
-  number_of : (make : ℕ → Item) (seen : Item-F Item) → out-Item (make n) ≡ seen → (argument_at info at bytes >>= (λ k. Ok (make k.0, k.1))) ≡ Ok (item, end) →
+  number_of : (make : ℕ → Item) (seen : Item-F Item) → out-Item (make n) ≡ seen → ◌>>=◌ {B = Item × ℕ} (argument_at info at bytes) (λ k. Ok (make k.0, k.1)) ≡ Ok (item, end) →
       (out-Item item ≡ seen) × (next ≡ end)
   number_of make seen out h =
       let same = ok_same (make n, next) (item, end) (bound (argument_at info at bytes) (n, next) _ (Ok (item, end)) a h) in
@@ -309,6 +315,11 @@ indefinite_of depth bytes at item end major.Map h =
 indefinite_of depth bytes at item end major.Tag h = absurd (not_ok _ (item, end) h)
 indefinite_of depth bytes at item end major.Simple h = absurd (not_ok _ (item, end) h)
 
+-- a fault of a call that takes no memory is the one that is read
+pub is_fault : {A : Type 0} (bytes : List ℕ) (e : CborFault) (r : Result A CborFault) → GivesFault e r → LiesWithin bytes e → (f : CborFault) × (r ≡ Err f)
+is_fault bytes (fault.Bad at reason) r gives within = (fault.Bad at reason, gives)
+is_fault bytes fault.NoMemory r gives within = absurd within
+
 -- An item begins with a byte; behind it stands an argument, where the additional information says so.
 module _ (depth : ℕ) (bytes : List ℕ) (at : ℕ) (item : Item) (end : ℕ) (is : ItemAt depth bytes at item end) where
   read_by : item_by depth (item_at (depth - 1) bytes) why.Break at bytes ≡ Ok (item, end)
@@ -339,3 +350,30 @@ module _ (depth : ℕ) (bytes : List ℕ) (at : ℕ) (item : Item) (end : ℕ) (
       let k = bound (byte_at at bytes) first _ (Ok (item, end)) there read_by in
       let j = if_false (nat_lt (first % 32) 28) _ _ (le-ltb (first % 32) 28 high) k in
       indefinite_of depth bytes at item end (major_type (first / 32)) (if_err_else (nat_lt (first % 32) 31) _ _ (item, end) j).1
+
+-- what is seen of an item by its head
+module _ (argument : Option ℕ) (next depth : ℕ) (bytes : List ℕ) (item : Item) (end : ℕ) where
+  pub unsigned_seen : (kind : MajorType) (n : ℕ) → HeadOf kind argument next depth bytes item end → kind ≡ major.Unsigned → argument ≡ Some n →
+      (unsigned_in (out-Item item) ≡ Some n) × (next ≡ end)
+  unsigned_seen kind n h k a = let g = rw (k, a) at h in (ap unsigned_in g.0, g.1)
+
+  pub never_bare : (kind : MajorType) → HeadOf kind argument next depth bytes item end → kind ≡ major.Unsigned → argument ≡ None → ⊥
+  never_bare kind h k a = let g = rw (k, a) at h in g
+
+  pub not_unsigned : (kind : MajorType) → HeadOf kind argument next depth bytes item end → (kind ≡ major.Unsigned → ⊥) → unsigned_in (out-Item item) ≡ None
+  not_unsigned major.Unsigned h apart = absurd (apart refl)
+  not_unsigned major.Negative h apart = negative_seen argument h
+    where
+      negative_seen : (a : Option ℕ) → HeadOf major.Negative a next depth bytes item end → unsigned_in (out-Item item) ≡ None
+      negative_seen None g = absurd g
+      negative_seen (Some n) g = ap unsigned_in g.0
+  not_unsigned major.Bytes h apart = bytes_seen argument h
+    where
+      bytes_seen : (a : Option ℕ) → HeadOf major.Bytes a next depth bytes item end → unsigned_in (out-Item item) ≡ None
+      bytes_seen None g = ap unsigned_in g.1
+      bytes_seen (Some n) g = ap unsigned_in g.0
+  not_unsigned major.Text h apart = ap unsigned_in h.1
+  not_unsigned major.Array h apart = ap unsigned_in h.1
+  not_unsigned major.Map h apart = ap unsigned_in h.1
+  not_unsigned major.Tag h apart = ap unsigned_in h.1
+  not_unsigned major.Simple h apart = ap unsigned_in h.1
