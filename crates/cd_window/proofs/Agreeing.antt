@@ -1,6 +1,6 @@
 -- Which keys two events have in common that agree in what identifies an exchange.
 use Rattle.std.proofs.Common.{◌≡◌, ℕ, Bool, true, false, ◌&&◌, ◌||◌, List, filter, map, Option, Some, None, refl, ap, sym, ◌∙◌, subst}
-use Rattle.std.specs.Prelude.{IsSome, IfSome, is_none, nat_eq, slice_get}
+use Rattle.std.specs.Prelude.{IsSome, IfSome, nat_eq, slice_get}
 use Rattle.std.specs.Option.{option_eq, option_map}
 use Rattle.std.specs.Cmp.Lexicographic.{pointwise, nat_list_eq_equiv}
 use Rattle.std.proofs.lemmas.Bool.{both_ways}

@@ -1,6 +1,5 @@
 -- The events that wait stand in order while the next one is taken in.
-use Rattle.std.proofs.Common.{◌≡◌, ℕ, ◌+◌, ◌-◌, ◌≤◌, Bool, not, eqb, List, filter, Option, Some, None, ap, sym, ◌∙◌, subst, arith}
-use Rattle.cd_pairing.specs.declared.keyed.TheConstants.{LEAST_WEIGHT}
+use Rattle.std.proofs.Common.{◌≡◌, ℕ, ◌+◌, ◌-◌, ◌≤◌, not, eqb, List, Option, Some, None, ap, sym, ◌∙◌, subst, arith}
 use Rattle.cd_pairing.specs.Events.{EventView}
 use Rattle.cd_window.specs.declared.stamps.Stamp.{Stamp}
 use Rattle.cd_window.specs.Waiting.{Waits, waits_with, AreRising, CameBefore, AllBefore, left_of, joined_by}

@@ -1,4 +1,4 @@
-ghost use Rattle.std.specs.Prelude.{◌≡◌, ◌<◌, ◌≤◌, ◌+◌, ◌^◌, ℕ, true, false, [], ◌∷◌, ◌++◌, length, Some, None, IsSome, IfSome};
+ghost use Rattle.std.specs.Prelude.{◌≡◌, ◌<◌, ◌+◌, ◌^◌, ℕ, true, false, [], ◌∷◌, ◌++◌, length, Some, None, IsSome, IfSome};
 ghost use Rattle.std.specs.Prelude.{IfOk, OnOk, OnErr, slice_get};
 ghost use Rattle.std.specs.List.{filter};
 ghost use Rattle.cd_chain.specs.Cells.{is_in};

@@ -1,7 +1,5 @@
 -- what waits stands in order between the calls
-use Rattle.std.proofs.Common.{ap, sym, ◌∙◌}
-use Rattle.cd_window.specs.Waiting.{waits_of, waits_with, waits_still, agreeing, joined_by, left_of}
-use Rattle.cd_window.specs.Joining.{before_next, after_next}
+use Rattle.cd_window.specs.Waiting.{waits_of}
 use Rattle.cd_window.specs.Lists.{waits_in}
 use Rattle.cd_window.proofs.Meeting.{own_rising, own_before, others_rising, others_before}
 use Rattle.cd_window.proofs.joining.meet.Goals as goal
