@@ -10,6 +10,7 @@ use crate::fault::{CborFault, Why};
 use crate::head_reading::{INDEFINITE, NO_ARGUMENT, argument_at, bad, byte_at, major_type};
 use crate::item::Item;
 use crate::major_type::MajorType;
+use crate::passing::pass_item;
 use crate::string_reading::{BREAK, chunks_at, string_at};
 use cd_name::{Blob, List};
 use std::alloc::Global;
@@ -186,8 +187,7 @@ fn map_at(
     Ok((Item::Map(List::from_vec(pairs)), here))
 }
 
-// The tagged value with its head at an offset.
-#[cycle(item)]
+// The tagged value with its head at an offset. What is in it is passed over, and copied once with it.
 #[tactic(auto, unfolding(crate::specs::Reading::tagged_at))]
 fn tagged_at(
     alloc: Global,
@@ -205,7 +205,10 @@ fn tagged_at(
         return Err(bad(at, Why::Depth));
     }
     let (_tag, next) = argument_at(bytes, info, at)?;
-    let (_content, end) = item_at(alloc, bytes, depth - 1, Why::Break, next)?;
+    let end = match pass_item(bytes, depth - 1, Why::Break, next) {
+        Ok(end) => end,
+        Err(fault) => return Err(fault),
+    };
     let item = other(alloc, bytes, at, end)?;
     Ok((item, end))
 }
