@@ -56,10 +56,10 @@ events_are_the_items bytes given position at item next all leads h =
       spelled = t.spelled;
       told = t.told;
       fronts = λ fed more other later end place is reached after before.
-      let grown : Leads bytes other later end place = subst (λ b. Leads b other later end place) (sym is) (leads_grow fed more reached) in
-      let first = (histories_are_one bytes given other nothing_open later position end at place leads grown).front after in
-      let second = (histories_are_one bytes other (given ++ events) later nothing_open end next place next grown t.told).front before in
-      (first.0, second.0, first.1, append_cancel_left given events (first.0 ++ second.0) (second.1 ∙ ap (λ s. s ++ second.0) first.1 ∙ append_assoc given first.0 second.0));
+          let grown : Leads bytes other later end place = subst (λ b. Leads b other later end place) (sym is) (leads_grow fed more reached) in
+          let first = (histories_are_one bytes given other nothing_open later position end at place leads grown).front after in
+          let second = (histories_are_one bytes other (given ++ events) later nothing_open end next place next grown t.told).front before in
+          (first.0, second.0, first.1, append_cancel_left given events (first.0 ++ second.0) (second.1 ∙ ap (λ s. s ++ second.0) first.1 ∙ append_assoc given first.0 second.0));
     }
 
 -- a call after a fault says it again

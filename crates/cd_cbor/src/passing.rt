@@ -118,7 +118,7 @@ fn pass_pairs(bytes: &[u8], depth: usize, count: u64, at: usize) -> Result<usize
 fn pass_items_to_break(bytes: &[u8], depth: usize, at: usize) -> Result<usize, CborFault>
     ensures read { Gives (λ n. n) result
         (end_of (until_break (λ place. place) bytes.now (length bytes.now)
-            (reading.item_at depth bytes.now why.Break) at)) }
+        (reading.item_at depth bytes.now why.Break) at)) }
     ensures within { IfOk result (λ n. (at < n) × (n ≤ length bytes.now)) }
 {
     let mut here = at;
@@ -143,7 +143,7 @@ fn pass_items_to_break(bytes: &[u8], depth: usize, at: usize) -> Result<usize, C
 fn pass_pairs_to_break(bytes: &[u8], depth: usize, at: usize) -> Result<usize, CborFault>
     ensures read { Gives (λ n. n) result
         (end_of (until_break (λ place. place) bytes.now (length bytes.now)
-            (reading.entry_at (reading.item_at depth bytes.now) why.Odd) at)) }
+        (reading.entry_at (reading.item_at depth bytes.now) why.Odd) at)) }
     ensures within { IfOk result (λ n. (at < n) × (n ≤ length bytes.now)) }
 {
     let mut here = at;

@@ -39,10 +39,10 @@ returns-in-Err-Bad c =
     let here : c.self.inside.at ≡ c.step.new.self.at = ap (λ r. r.at) c.self.view_is in
     record {
       history = λ fed given h.
-      let st = stands_stopped c.steps.self c.step.new.self fed given (c.steps.invariant.stands fed given h) c.in-Err-Bad.field-0-0 c.in-Err-Bad.why done in
-      (st.0, subst (λ n. Stops fed given n c.in-Err-Bad.why) (sym here) st.1);
+          let st = stands_stopped c.steps.self c.step.new.self fed given (c.steps.invariant.stands fed given h) c.in-Err-Bad.field-0-0 c.in-Err-Bad.why done in
+          (st.0, subst (λ n. Stops fed given n c.in-Err-Bad.why) (sym here) st.1);
       again = λ fed more given at reason s apart h.
-      let st = stands_stopped c.steps.self c.step.new.self (fed ++ more) given (c.steps.invariant.stands (fed ++ more) given h) c.in-Err-Bad.field-0-0 c.in-Err-Bad.why done in
-      says_again c.step.new.self fed more given at reason (Err (fault.Bad c.self.inside.at c.in-Err-Bad.why)) s apart (st.0, subst (λ n. Stops (fed ++ more) given n c.in-Err-Bad.why) (sym here) st.1);
+          let st = stands_stopped c.steps.self c.step.new.self (fed ++ more) given (c.steps.invariant.stands (fed ++ more) given h) c.in-Err-Bad.field-0-0 c.in-Err-Bad.why done in
+          says_again c.step.new.self fed more given at reason (Err (fault.Bad c.self.inside.at c.in-Err-Bad.why)) s apart (st.0, subst (λ n. Stops (fed ++ more) given n c.in-Err-Bad.why) (sym here) st.1);
       count = ap (λ r. r.fed_count) done.1 ∙ c.steps.invariant.count;
     }
