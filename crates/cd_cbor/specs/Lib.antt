@@ -11,7 +11,7 @@ pub mod Ends
 pub mod Events
 pub mod Following
 pub mod EventLaws
+pub mod Telling
 pub mod OnePath
 pub mod Scanning
-pub mod Telling
 pub mod Laws
