@@ -1,23 +1,20 @@
 -- What the bytes of a capture are refused for, and the packets that are compacted, as the bytes go on.
-use Rattle.std.proofs.Common.{◌≡◌, ℕ, ◌+◌, ◌<◌, ◌≤◌, Bool, true, false, cond, List, [], ◌∷◌, ◌++◌, length, take, Option, Some, None, is_some, refl, ap, sym, ◌∙◌, arith, inl, inr, nat_eq, length-append, subst}
+use Rattle.std.proofs.Common.{◌≡◌, ℕ, ◌+◌, ◌<◌, ◌≤◌, Bool, true, false, cond, List, [], ◌∷◌, ◌++◌, length, take, Option, Some, None, is_some, refl, ap, sym, ◌∙◌, arith, inl, inr, length-append, subst}
 use Rattle.std.specs.Prelude.{nat_lt}
-use Rattle.std.proofs.lemmas.Bool.{le-ltb, lt-ltb, ltb-false, eqb-true, cases_lt, cases_Bool, false≢true}
+use Rattle.std.proofs.lemmas.Bool.{ltb-false, cases_lt, cases_Bool}
 use Rattle.std.proofs.lemmas.List.{append-nil, take-append-le}
-use Rattle.cd_bytes.specs.Numbers.{le32}
 use Rattle.cd_ident.specs.declared.event_rules.EventRules.{EventRules}
-use Rattle.cd_packet.specs.Magic.{has_magic}
 use Rattle.cd_packet.specs.Capture.{Capture, Grows, IsWholeOrCut}
 use Rattle.cd_packet.specs.declared.capture.BadCapture.{BadCapture}
 use Rattle.cd_packet.specs.declared.capture.EndState.{EndState}
 use Rattle.cd_packet.specs.declared.capture.EndState.TheVariants.{Whole, Cut, Bad}
 use Rattle.cd_packet.specs.declared.packet.Packet.{Packet}
-use Rattle.cd_packet.proofs.Growing.{has_magic-append, has_magic-many, has_magic-few}
 use Rattle.cd_pcap.specs.Pcap.{form_of, pcap}
 use Rattle.cd_pcap.proofs.Extending.{pcap-grow}
 use Rattle.cd_pcap.proofs.Forms.{form_of-few}
 use Rattle.cd_pcap.proofs.Records.{pcap-magic, pcap-none}
 use Rattle.cd_pcap.proofs.Refusals.{packets_before}
-use Rattle.cd_engine.specs.CapturesGo.{none_chosen, other_few, other_stays, other_unread, refusal_few, refusal_many, at_end_other, at_end_read}
+use Rattle.cd_engine.specs.CapturesGo.{none_chosen, other_few, other_stays, other_unread, refusal_many, at_end_other, at_end_read}
 use Rattle.cd_engine.specs.Counting.{is_cut, is_cut_short}
 use Rattle.cd_engine.specs.Events.{event_of}
 use Rattle.cd_engine.specs.Refusals.{is_other_format, first_unserved, refusal_of_end, refusal_after, refusal_of_capture, refusal_at_end, refusal, before_refusal, compacted_packets}
@@ -54,7 +51,8 @@ packets-few bytes few = ap (λ (c : Capture). c.packets) (pcap-magic bytes (form
 pub packets-other : (bytes : List ℕ) → 4 ≤ length bytes → is_other_format bytes ≡ true → (pcap bytes).packets ≡ []
 packets-other bytes four other = ap (λ (c : Capture). c.packets) (pcap-magic bytes (other_unread bytes other))
 
-refusal_chosen : (few : Bool) (o : Option Refusal) (r : Refusal) → cond few None o ≡ Some r → (few ≡ false) × (o ≡ Some r)
+refusal_chosen : (few : Bool) (o : Option Refusal) (r : Refusal) → cond few None o ≡ Some r →
+    (few ≡ false) × (o ≡ Some r)
 refusal_chosen true o r e = absurd cc
 refusal_chosen false o r e = (refl, e)
 
@@ -90,8 +88,10 @@ compacted-few rules bytes few =
     compacted-at rules bytes _ (at_end-few rules bytes few ∙ end) ∙ no_packets
 
 -- nor of another format
-pub compacted-other : (rules : EventRules) (bytes : List ℕ) → is_other_format bytes ≡ true → compacted_packets rules bytes ≡ []
-compacted-other rules bytes other = compacted-at rules bytes (Some (NotYet 0)) (at_end_other rules bytes other) ∙ no_packets
+pub compacted-other : (rules : EventRules) (bytes : List ℕ) → is_other_format bytes ≡ true →
+    compacted_packets rules bytes ≡ []
+compacted-other rules bytes other =
+    compacted-at rules bytes (Some (NotYet 0)) (at_end_other rules bytes other) ∙ no_packets
 
 -- What is refused stays so as more bytes come, and the same packets are compacted.
 pub record StaysRefused (rules : EventRules) (fed more : List ℕ) (r : Refusal) : Type 0 where
@@ -126,19 +126,22 @@ unserved_stays rules fed more at four read first within =
     let same : take at (fed ++ more) ≡ take at fed = take-append-le at fed more within in
     record {
       refused = refusal_many rules (fed ++ more) (four_more fed more four) ∙ later;
-      packets = compacted-at rules (fed ++ more) _ later ∙ ap (λ t. (pcap t).packets) same ∙ sym (compacted-at rules fed _ now);
+      packets = compacted-at rules (fed ++ more) _ later ∙ ap (λ t. (pcap t).packets) same
+          ∙ sym (compacted-at rules fed _ now);
     }
 
 -- a refused place stays
 bad_stays : (rules : EventRules) (fed more : List ℕ) (b : BadCapture) → 4 ≤ length fed → is_other_format fed ≡ false →
-    first_unserved rules (pcap fed).packets ≡ None → (pcap fed).end ≡ Bad b → StaysRefused rules fed more (RefusedCapture b)
+    first_unserved rules (pcap fed).packets ≡ None → (pcap fed).end ≡ Bad b →
+    StaysRefused rules fed more (RefusedCapture b)
 bad_stays rules fed more b four read served bad =
     let g : Grows (pcap fed) (pcap (fed ++ more)) = pcap-grow fed more four in
     let rest = g.refused b bad in
     let end : (pcap (fed ++ more)).end ≡ Bad b =
     ap (λ (c : Capture). c.end) g.packets ∙ ap (λ (c : Capture). c.end) rest ∙ bad in
     let packets : (pcap (fed ++ more)).packets ≡ (pcap fed).packets =
-    ap (λ (c : Capture). c.packets) g.packets ∙ ap (λ (c : Capture). (pcap fed).packets ++ c.packets) rest ∙ append-nil (pcap fed).packets in
+    ap (λ (c : Capture). c.packets) g.packets ∙ ap (λ (c : Capture). (pcap fed).packets ++ c.packets) rest
+    ∙ append-nil (pcap fed).packets in
     let now : refusal_at_end rules fed ≡ Some (RefusedCapture b) =
     at_end_read rules fed read ∙ ap (λ o. refusal_after o (pcap fed).end) served ∙ ap refusal_of_end bad in
     let later : refusal_at_end rules (fed ++ more) ≡ Some (RefusedCapture b) =
@@ -198,7 +201,8 @@ at_end_known rules fed none =
           elim (cases_Bool (is_other_format fed)) [
             | inl other ↦ let no : Some (NotYet 0) ≡ None = sym (at_end_other rules fed other) ∙ told in absurd cc
             | inr read ↦
-                after_none (first_unserved rules (pcap fed).packets) (pcap fed).end (sym (at_end_read rules fed read) ∙ told) ∙ sym told
+                after_none (first_unserved rules (pcap fed).packets) (pcap fed).end
+                (sym (at_end_read rules fed read) ∙ told) ∙ sym told
           ]
     ]
 
@@ -235,7 +239,8 @@ pub record IsUnrefused (rules : EventRules) (bytes : List ℕ) : Type 0 where
   pub now : refusal rules bytes ≡ None
   pub at_end : refusal_at_end rules bytes ≡ None
 
-pub served_unrefused : (rules : EventRules) (bytes : List ℕ) → IsWholeOrCut (pcap bytes).end → first_unserved rules (pcap bytes).packets ≡ None →
+pub served_unrefused : (rules : EventRules) (bytes : List ℕ) → IsWholeOrCut (pcap bytes).end →
+    first_unserved rules (pcap bytes).packets ≡ None →
     IsUnrefused rules bytes
 served_unrefused rules bytes end served =
     elim (cases_lt (length bytes) 4) [
@@ -244,7 +249,8 @@ served_unrefused rules bytes end served =
         | inl other ↦ absurd (no_capture bytes (other_unread bytes other) end)
         | inr read ↦
             let none : refusal_at_end rules bytes ≡ None =
-            at_end_read rules bytes read ∙ ap (λ o. refusal_after o (pcap bytes).end) served ∙ open_end (pcap bytes).end end in
+            at_end_read rules bytes read ∙ ap (λ o. refusal_after o (pcap bytes).end) served
+            ∙ open_end (pcap bytes).end end in
             record { now = refusal_many rules bytes four ∙ none; at_end = none }
       ]
     ]

@@ -42,9 +42,11 @@ first_kept form link at n before taken q front is same first others =
     ∙ ap (λ (p : Packet). p ∷ front) first
 
 -- the packet is that of the record at the front, or it stands after that
-first_or_later : (form : Form) (link at b : ℕ) (xs : List ℕ) (front rest : List Packet) (p : Packet) → 16 ≤ length (b ∷ xs) →
+first_or_later : (form : Form) (link at b : ℕ) (xs : List ℕ) (front rest : List Packet) (p : Packet) →
+    16 ≤ length (b ∷ xs) →
     captured_length form (b ∷ xs) ≤ 262144 → 16 + captured_length form (b ∷ xs) ≤ length (b ∷ xs) →
-    ((more : List Packet) → (records form link (15 + captured_length form (b ∷ xs)) (at + 1) xs).packets ≡ more ++ p ∷ rest →
+    ((more : List Packet) → (records form link (15 + captured_length form (b ∷ xs)) (at + 1) xs).packets
+    ≡ more ++ p ∷ rest →
     HasPlace form link (15 + captured_length form (b ∷ xs)) (at + 1) xs more p) →
     packet_at form link at (b ∷ xs) ∷ (records form link (15 + captured_length form (b ∷ xs)) (at + 1) xs).packets
     ≡ front ++ p ∷ rest → HasPlace form link 0 at (b ∷ xs) front p
@@ -65,12 +67,14 @@ first_or_later form link at b xs (q ∷ front) rest p long small whole later e =
     let n : ℕ = captured_length form (b ∷ xs) in
     let before : List ℕ = b ∷ take k.size xs in
     let size : length (take k.size xs) ≡ k.size = length-take-le k.size xs k.within in
-    let same : captured_length form before ≡ n = number32_at-take form.order 8 (suc k.size) (b ∷ xs) (omega (arith, k.least)) (omega (arith, k.within)) in
+    let same : captured_length form before ≡ n =
+    number32_at-take form.order 8 (suc k.size) (b ∷ xs) (omega (arith, k.least)) (omega (arith, k.within)) in
     let first : packet_at form link at (b ∷ xs) ≡ packet_at form link at before =
     ap (λ t. packet_at form link at (b ∷ t)) (sym (take-append-drop k.size xs))
     ∙ packet_at-append form link at before (drop k.size xs) (omega (arith, k.least)) in
     let f : records form link 0 at before
-    ≡ after (packet_at form link at before ∷ []) (records form link (15 + captured_length form before) (at + 1) (take k.size xs)) =
+    ≡ after (packet_at form link at before ∷ []) (records form link (15 + captured_length form before) (at + 1)
+    (take k.size xs)) =
     records-first form link at b (take k.size xs) (omega (arith, k.least)) (omega arith) (omega (arith, k.least)) in
     record {
       size = suc k.size;
@@ -88,14 +92,24 @@ records-place form link zero at [] front rest p h = absurd (none_there front res
 records-place form link (suc inside) at [] front rest p h = absurd (none_there front rest p h)
 records-place form link (suc inside) at (b ∷ xs) front rest p h =
     let k = records-place form link inside (at + 1) xs front rest p h in
-    record { size = suc k.size; place = omega (arith, k.place); least = omega (arith, k.least); within = omega (arith, k.within); packets = k.packets }
+    record {
+      size = suc k.size;
+      place = omega (arith, k.place);
+      least = omega (arith, k.least);
+      within = omega (arith, k.within);
+      packets = k.packets;
+    }
 records-place form link zero at (b ∷ xs) front rest p h =
     elim (cases_lt (length (b ∷ xs)) 16) [
-      | inl short ↦ absurd (none_there front rest p (packets_at _ _ _ (records-short form link at (b ∷ xs) (omega arith) short) h))
+      | inl short ↦
+          absurd (none_there front rest p (packets_at _ _ _
+          (records-short form link at (b ∷ xs) (omega arith) short) h))
       | inr long ↦ elim (cases_lt 262144 (captured_length form (b ∷ xs))) [
-        | inl large ↦ absurd (none_there front rest p (packets_at _ _ _ (records-refused form link at (b ∷ xs) long large) h))
+        | inl large ↦
+            absurd (none_there front rest p (packets_at _ _ _ (records-refused form link at (b ∷ xs) long large) h))
         | inr small ↦ elim (cases_lt (length (b ∷ xs)) (16 + captured_length form (b ∷ xs))) [
-          | inl cut ↦ absurd (none_there front rest p (packets_at _ _ _ (records-cut form link at (b ∷ xs) long small cut) h))
+          | inl cut ↦
+              absurd (none_there front rest p (packets_at _ _ _ (records-cut form link at (b ∷ xs) long small cut) h))
           | inr whole ↦ first_or_later form link at b xs front rest p long small whole
               (λ more e. records-place form link (15 + captured_length form (b ∷ xs)) (at + 1) xs more rest p e)
               (packets_at _ _ _ (records-first form link at b xs long small whole) h)
@@ -104,7 +118,8 @@ records-place form link zero at (b ∷ xs) front rest p h =
     ]
 
 -- the bytes before a packet of a capture have the packets before it
-pub packets-place : (bytes : List ℕ) (front rest : List Packet) (p : Packet) → (pcap bytes).packets ≡ front ++ p ∷ rest →
+pub packets-place : (bytes : List ℕ) (front rest : List Packet) (p : Packet) →
+    (pcap bytes).packets ≡ front ++ p ∷ rest →
     (pcap (take p.at bytes)).packets ≡ front
 packets-place bytes front rest p h =
     elim (cases_form bytes) [
@@ -115,8 +130,11 @@ packets-place bytes front rest p h =
           | inr three ↦ absurd (none_there front rest p (packets_at _ _ _ (pcap-version form bytes magic long three) h))
           | inl two ↦
               let link : ℕ = link_type form bytes in
-              let k = records-place form link 0 24 (drop 24 bytes) front rest p (packets_at _ _ _ (pcap-records form bytes magic long two) h) in
-              let header : HasHeader form link bytes = record { magic = magic; long = long; version = two; type = refl } in
+              let k =
+              records-place form link 0 24 (drop 24 bytes) front rest p
+              (packets_at _ _ _ (pcap-records form bytes magic long two) h) in
+              let header : HasHeader form link bytes =
+              record { magic = magic; long = long; version = two; type = refl } in
               ap (λ n. (pcap (take n bytes)).packets) k.place
               ∙ ap (λ t. (pcap t).packets) (take-add 24 k.size bytes)
               ∙ ap (λ (c : Capture). c.packets) (pcap-header form link bytes (take k.size (drop 24 bytes)) header)

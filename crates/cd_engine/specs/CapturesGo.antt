@@ -27,7 +27,8 @@ unfolding refusal
 refusal_few rules bytes few = rw (lt-ltb (length bytes) 4 few) refl
 
 -- from four bytes on, bytes are refused for what they are refused for at their end
-pub refusal_many : (rules : EventRules) (bytes : List ℕ) → 4 ≤ length bytes → refusal rules bytes ≡ refusal_at_end rules bytes
+pub refusal_many : (rules : EventRules) (bytes : List ℕ) → 4 ≤ length bytes →
+    refusal rules bytes ≡ refusal_at_end rules bytes
 unfolding refusal
 refusal_many rules bytes four = rw (le-ltb (length bytes) 4 four) refl
 
@@ -36,12 +37,14 @@ pub nothing_unrefused : (rules : EventRules) → refusal rules [] ≡ None
 nothing_unrefused rules = refusal_few rules [] (omega arith)
 
 -- bytes of another format are refused at once
-pub at_end_other : (rules : EventRules) (bytes : List ℕ) → is_other_format bytes ≡ true → refusal_at_end rules bytes ≡ Some (refused.NotYet 0)
+pub at_end_other : (rules : EventRules) (bytes : List ℕ) → is_other_format bytes ≡ true →
+    refusal_at_end rules bytes ≡ Some (refused.NotYet 0)
 unfolding refusal_at_end
 at_end_other rules bytes other = rw other refl
 
 -- bytes of the format that is read are refused for what their capture is refused for
-pub at_end_read : (rules : EventRules) (bytes : List ℕ) → is_other_format bytes ≡ false → refusal_at_end rules bytes ≡ refusal_of_capture rules (pcap bytes)
+pub at_end_read : (rules : EventRules) (bytes : List ℕ) → is_other_format bytes ≡ false →
+    refusal_at_end rules bytes ≡ refusal_of_capture rules (pcap bytes)
 unfolding refusal_at_end
 at_end_read rules bytes read = rw read refl
 
@@ -64,9 +67,12 @@ other_unread_many bytes four other =
     elim (cases_Bool (is_little_micro bytes)) [
       | inr other_magic ↦ other_magic
       | inl little ↦
-          let magic : le32 0 bytes ≡ 0xa1b2c3d4 = eqb-true (le32 0 bytes) 0xa1b2c3d4 (sym (has_magic-many 0xa1b2c3d4 bytes four) ∙ little) in
-          let test : (n : ℕ) → has_magic n bytes ≡ nat_eq 0xa1b2c3d4 n = λ n. has_magic-many n bytes four ∙ ap (λ k. nat_eq k n) magic in
-          let none : is_other_format bytes ≡ false = rw (test 0xd4c3b2a1, test 0xa1b23c4d, test 0x4d3cb2a1, test 0x0a0d0d0a) refl in
+          let magic : le32 0 bytes ≡ 0xa1b2c3d4 =
+          eqb-true (le32 0 bytes) 0xa1b2c3d4 (sym (has_magic-many 0xa1b2c3d4 bytes four) ∙ little) in
+          let test : (n : ℕ) → has_magic n bytes ≡ nat_eq 0xa1b2c3d4 n =
+          λ n. has_magic-many n bytes four ∙ ap (λ k. nat_eq k n) magic in
+          let none : is_other_format bytes ≡ false =
+          rw (test 0xd4c3b2a1, test 0xa1b23c4d, test 0x4d3cb2a1, test 0x0a0d0d0a) refl in
           absurd (false≢true (sym none ∙ other))
     ]
 
@@ -84,7 +90,8 @@ none_chosen true x at e = (refl, e)
 none_chosen false x at e = absurd cc
 
 -- among packets that are all read, none stands in front that is not
-pub unserved_front : (rules : EventRules) (ps qs : List Packet) → first_unserved rules (ps ++ qs) ≡ None → first_unserved rules ps ≡ None
+pub unserved_front : (rules : EventRules) (ps qs : List Packet) → first_unserved rules (ps ++ qs) ≡ None →
+    first_unserved rules ps ≡ None
 unserved_front rules [] qs none = refl
 unserved_front rules (p ∷ ps) qs none =
     let k = none_chosen (is_some (event_of rules p)) (first_unserved rules (ps ++ qs)) p.at none in
@@ -108,11 +115,13 @@ pub none_refused : (o : Option ℕ) (e : EndState) → o ≡ None → IsWholeOrC
 none_refused o e served open_end = ap (λ (x : Option ℕ). refusal_after x e) served ∙ end_unrefused e open_end
 
 -- where the end is no refused place as the bytes go on, it was none before
-end_before : (now later : Capture) → Grows now later → IsWholeOrCut later.end → (e : EndState) → now.end ≡ e → IsWholeOrCut e
+end_before : (now later : Capture) → Grows now later → IsWholeOrCut later.end → (e : EndState) → now.end ≡ e →
+    IsWholeOrCut e
 end_before now later g h Whole is = tt
 end_before now later g h Cut is = tt
 end_before now later g h (Bad b) is =
-    let last : later.end ≡ Bad b = ap (λ (c : Capture). c.end) g.packets ∙ ap (λ (c : Capture). c.end) (g.refused b is) ∙ is in
+    let last : later.end ≡ Bad b =
+    ap (λ (c : Capture). c.end) g.packets ∙ ap (λ (c : Capture). c.end) (g.refused b is) ∙ is in
     subst IsWholeOrCut last h
 
 -- what is not refused in all is not refused at the front
@@ -123,18 +132,25 @@ refusal_stays rules xs ys none =
       | inl few ↦ refusal_few rules xs few
       | inr four ↦ elim (cases_Bool (is_other_format xs)) [
         | inl other ↦
-            let all = refusal_many rules (xs ++ ys) (omega arith) ∙ at_end_other rules (xs ++ ys) (other_stays xs ys four ∙ other) in
+            let all =
+            refusal_many rules (xs ++ ys) (omega arith)
+            ∙ at_end_other rules (xs ++ ys) (other_stays xs ys four ∙ other) in
             let no_refusal = sym all ∙ none in
             absurd cc
         | inr read ↦
-            let all = refusal_many rules (xs ++ ys) (omega arith) ∙ at_end_read rules (xs ++ ys) (other_stays xs ys four ∙ read) in
-            let k = refused_none (first_unserved rules (pcap (xs ++ ys)).packets) (pcap (xs ++ ys)).end (sym all ∙ none) in
+            let all =
+            refusal_many rules (xs ++ ys) (omega arith)
+            ∙ at_end_read rules (xs ++ ys) (other_stays xs ys four ∙ read) in
+            let k =
+            refused_none (first_unserved rules (pcap (xs ++ ys)).packets) (pcap (xs ++ ys)).end (sym all ∙ none) in
             let g : Grows (pcap xs) (pcap (xs ++ ys)) = pcap-grow xs ys four in
-            let packets : (pcap (xs ++ ys)).packets ≡ (pcap xs).packets ++ g.rest.packets = ap (λ (c : Capture). c.packets) g.packets in
+            let packets : (pcap (xs ++ ys)).packets ≡ (pcap xs).packets ++ g.rest.packets =
+            ap (λ (c : Capture). c.packets) g.packets in
             let served : first_unserved rules (pcap xs).packets ≡ None =
             unserved_front rules (pcap xs).packets g.rest.packets (ap (first_unserved rules) (sym packets) ∙ k.0) in
             let end : IsWholeOrCut (pcap xs).end = end_before (pcap xs) (pcap (xs ++ ys)) g k.1 (pcap xs).end refl in
-            refusal_many rules xs four ∙ at_end_read rules xs read ∙ none_refused (first_unserved rules (pcap xs).packets) (pcap xs).end served end
+            refusal_many rules xs four ∙ at_end_read rules xs read
+            ∙ none_refused (first_unserved rules (pcap xs).packets) (pcap xs).end served end
       ]
     ]
 
@@ -158,48 +174,58 @@ record HasFirst (rules : EventRules) (ps : List Packet) (at : ℕ) : Type 0 wher
   place : first.at ≡ at
 
 first_at : (rules : EventRules) (p : Packet) (ps : List Packet) (at : ℕ) (b : Bool) → is_some (event_of rules p) ≡ b →
-    (if b then first_unserved rules ps else Some p.at) ≡ Some at → (first_unserved rules ps ≡ Some at → HasFirst rules ps at) →
+    (if b then first_unserved rules ps else Some p.at) ≡ Some at →
+    (first_unserved rules ps ≡ Some at → HasFirst rules ps at) →
     HasFirst rules (p ∷ ps) at
 first_at rules p ps at true is e later =
     let k = later e in
     record { first = k.first; rest = k.rest; split = rw is (ap (λ (t : List Packet). p ∷ t) k.split); place = k.place }
 first_at rules p ps at false is e later = record { first = p; rest = ps; split = rw is refl; place = cc }
 
-served_first : (rules : EventRules) (ps : List Packet) (at : ℕ) → first_unserved rules ps ≡ Some at → HasFirst rules ps at
+served_first : (rules : EventRules) (ps : List Packet) (at : ℕ) → first_unserved rules ps ≡ Some at →
+    HasFirst rules ps at
 served_first rules [] at e = absurd cc
-served_first rules (p ∷ ps) at e = first_at rules p ps at (is_some (event_of rules p)) refl e (λ later. served_first rules ps at later)
+served_first rules (p ∷ ps) at e =
+    first_at rules p ps at (is_some (event_of rules p)) refl e (λ later. served_first rules ps at later)
 
 -- one list of packets is a front of the other
 abbrev pub PacketsGoOn : List Packet → List Packet → Type 0
 PacketsGoOn now later = (rest : List Packet) × (later ≡ now ++ rest)
 
 served_more : (rules : EventRules) (p : Packet) (ps qs : List Packet) (b : Bool) → is_some (event_of rules p) ≡ b →
-    PacketsGoOn (served rules ps) (served rules (ps ++ qs)) → PacketsGoOn (served rules (p ∷ ps)) (served rules (p ∷ (ps ++ qs)))
+    PacketsGoOn (served rules ps) (served rules (ps ++ qs)) → PacketsGoOn (served rules (p ∷ ps))
+    (served rules (p ∷ (ps ++ qs)))
 served_more rules p ps qs true is k = (k.0, rw is (ap (λ (t : List Packet). p ∷ t) k.1))
 served_more rules p ps qs false is k = ([], rw is refl)
 
 -- those that are read before some packets, and more as others follow
 served_goes_on : (rules : EventRules) (ps qs : List Packet) → PacketsGoOn (served rules ps) (served rules (ps ++ qs))
 served_goes_on rules [] qs = (served rules qs, refl)
-served_goes_on rules (p ∷ ps) qs = served_more rules p ps qs (is_some (event_of rules p)) refl (served_goes_on rules ps qs)
+served_goes_on rules (p ∷ ps) qs =
+    served_more rules p ps qs (is_some (event_of rules p)) refl (served_goes_on rules ps qs)
 
 -- the packets before the place that is refused
-compacted_of : (rules : EventRules) (bytes : List ℕ) (o : Option ℕ) (e : EndState) → first_unserved rules (pcap bytes).packets ≡ o →
+compacted_of : (rules : EventRules) (bytes : List ℕ) (o : Option ℕ) (e : EndState) →
+    first_unserved rules (pcap bytes).packets ≡ o →
     (pcap bytes).end ≡ e → (pcap (before_refusal (refusal_after o e) bytes)).packets ≡ served rules (pcap bytes).packets
 compacted_of rules bytes None Whole none is = sym (served_all rules (pcap bytes).packets none)
 compacted_of rules bytes None Cut none is = sym (served_all rules (pcap bytes).packets none)
-compacted_of rules bytes None (Bad b) none is = packets_before bytes b is ∙ sym (served_all rules (pcap bytes).packets none)
+compacted_of rules bytes None (Bad b) none is =
+    packets_before bytes b is ∙ sym (served_all rules (pcap bytes).packets none)
 compacted_of rules bytes (Some at) e there is =
     let k = served_first rules (pcap bytes).packets at there in
-    ap (λ n. (pcap (take n bytes)).packets) (sym k.place) ∙ packets-place bytes (served rules (pcap bytes).packets) k.rest k.first k.split
+    ap (λ n. (pcap (take n bytes)).packets) (sym k.place)
+    ∙ packets-place bytes (served rules (pcap bytes).packets) k.rest k.first k.split
 
 -- the packets that are compacted are those before the first that is not read
-pub compacted_served : (rules : EventRules) (bytes : List ℕ) → compacted_packets rules bytes ≡ served rules (pcap bytes).packets
+pub compacted_served : (rules : EventRules) (bytes : List ℕ) →
+    compacted_packets rules bytes ≡ served rules (pcap bytes).packets
 unfolding compacted_packets
 compacted_served rules bytes =
     elim (cases_Bool (is_other_format bytes)) [
       | inl other ↦
-          let none : (pcap bytes).packets ≡ [] = ap (λ (c : Capture). c.packets) (pcap-magic bytes (other_unread bytes other)) in
+          let none : (pcap bytes).packets ≡ [] =
+          ap (λ (c : Capture). c.packets) (pcap-magic bytes (other_unread bytes other)) in
           ap (λ o. (pcap (before_refusal o bytes)).packets) (at_end_other rules bytes other)
           ∙ ap (λ (c : Capture). c.packets) pcap-none ∙ sym (ap (served rules) none)
       | inr read ↦
@@ -208,16 +234,22 @@ compacted_served rules bytes =
     ]
 
 -- the packets that are compacted stay as the bytes go on
-pub packets_go_on : (rules : EventRules) (xs ys : List ℕ) → PacketsGoOn (compacted_packets rules xs) (compacted_packets rules (xs ++ ys))
+pub packets_go_on : (rules : EventRules) (xs ys : List ℕ) →
+    PacketsGoOn (compacted_packets rules xs) (compacted_packets rules (xs ++ ys))
 packets_go_on rules xs ys =
     let g = (pcap-goes_on xs ys).packets in
     let k = served_goes_on rules (pcap xs).packets g.0 in (
       k.0,
-      compacted_served rules (xs ++ ys) ∙ ap (served rules) g.1 ∙ k.1 ∙ ap (λ (t : List Packet). t ++ k.0) (sym (compacted_served rules xs)),
+      compacted_served rules (xs ++ ys) ∙ ap (served rules) g.1 ∙ k.1
+          ∙ ap (λ (t : List Packet). t ++ k.0) (sym (compacted_served rules xs)),
     )
 
 -- and so do their events
-pub events_go_on : (rules : EventRules) (xs ys : List ℕ) → (rest : List EventParts) × (compacted_events rules (xs ++ ys) ≡ compacted_events rules xs ++ rest)
+pub events_go_on : (rules : EventRules) (xs ys : List ℕ) →
+    (rest : List EventParts) × (compacted_events rules (xs ++ ys) ≡ compacted_events rules xs ++ rest)
 events_go_on rules xs ys =
-    let k = packets_go_on rules xs ys in
-    (events_of rules k.0, ap (events_of rules) k.1 ∙ filter_map-append (event_of rules) (compacted_packets rules xs) k.0)
+    let k = packets_go_on rules xs ys in (
+      events_of rules k.0,
+      ap (events_of rules) k.1
+          ∙ filter_map-append (event_of rules) (compacted_packets rules xs) k.0,
+    )
