@@ -1,2 +1,9 @@
 pub mod Units
 pub mod OptionsRead
+pub mod Framing
+pub mod Capturing
+pub mod Beginnings
+pub mod Passing
+pub mod Extending
+pub mod Standing
+pub mod Refusals

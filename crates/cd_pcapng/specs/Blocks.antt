@@ -13,6 +13,8 @@ use Rattle.cd_pcapng.specs.Options.{padded}
 use Rattle.cd_pcapng.specs.Times.{is_resolution}
 use Rattle.cd_pcapng.specs.Sections.{Section, section_of, interface_in, captured_in, enhanced_packet, simple_captured, simple_packet}
 use Rattle.cd_pcapng.specs.declared.interface.Interface.{Interface}
+use Rattle.cd_pcapng.specs.declared.kind.Kind.{Kind}
+use Rattle.cd_pcapng.specs.declared.kind.Kind.TheVariants as kind
 
 -- what stands at the front of some bytes
 pub data Front : Type 0 where
@@ -51,15 +53,27 @@ block_type order bytes = number32_at order 0 bytes
 abbrev pub total_length : Order → List ℕ → ℕ
 total_length order bytes = number32_at order 4 bytes
 
--- the least length that a block of this type has: section header, interface, enhanced packet, simple packet, any other
-abbrev pub least_length : ℕ → ℕ
-least_length type =
-    if nat_eq type 0x0a0d0d0a then 28
-    else (if nat_eq type 1 then 20 else (if nat_eq type 6 then 32 else (if nat_eq type 3 then 16 else 12)))
+-- the kind of a block of this type, which is no section header
+abbrev pub numbered_kind : ℕ → Kind
+numbered_kind type =
+    if nat_eq type 1 then kind.Interface
+    else (if nat_eq type 6 then kind.EnhancedPacket else (if nat_eq type 3 then kind.SimplePacket else kind.Other))
 
--- a block of this type may have this length
-abbrev pub is_block_length : ℕ → ℕ → Bool
-is_block_length type n = not (nat_lt n (least_length type)) && (not (nat_lt 16777216 n) && nat_eq (n % 4) 0)
+-- the kind of a block
+abbrev pub kind_of : Order → List ℕ → Kind
+kind_of order bytes = if is_section_header bytes then kind.SectionHeader else numbered_kind (block_type order bytes)
+
+-- the least length that a block of this kind has
+abbrev pub least_length : Kind → ℕ
+least_length kind.SectionHeader = 28
+least_length kind.Interface = 20
+least_length kind.EnhancedPacket = 32
+least_length kind.SimplePacket = 16
+least_length kind.Other = 12
+
+-- a block of this kind may have this length
+abbrev pub is_block_length : Kind → ℕ → Bool
+is_block_length k n = not (nat_lt n (least_length k)) && (not (nat_lt 16777216 n) && nat_eq (n % 4) 0)
 
 -- a section header: no interface is declared after it
 abbrev pub section_front : Order → List ℕ → Front
@@ -89,26 +103,26 @@ simple_front order (Some i) at block =
     if nat_lt 262144 (simple_captured order block) then refused_front why.Record
     else packet_block (simple_packet order i at block) (length block)
 
--- what a whole block of this type holds, where its two lengths agree
-abbrev pub content : Order → Section → ℕ → ℕ → List ℕ → Front
-content order s at type block =
-    if nat_eq type 0x0a0d0d0a then section_front order block
-    else (if nat_eq type 1 then interface_front order s block
-    else (if nat_eq type 6 then enhanced_front order (slice_get s.interfaces (number32_at order 8 block)) at block
-    else (if nat_eq type 3 then simple_front order (slice_get s.interfaces 0) at block
-    else other_block s (length block))))
+-- what a whole block of this kind holds, where its two lengths agree
+abbrev pub content : Order → Section → ℕ → Kind → List ℕ → Front
+content order s at kind.SectionHeader block = section_front order block
+content order s at kind.Interface block = interface_front order s block
+content order s at kind.EnhancedPacket block =
+    enhanced_front order (slice_get s.interfaces (number32_at order 8 block)) at block
+content order s at kind.SimplePacket block = simple_front order (slice_get s.interfaces 0) at block
+content order s at kind.Other block = other_block s (length block)
 
 -- what a whole block holds, whose length stands at its end again
 abbrev pub whole_front : Order → Section → ℕ → List ℕ → Front
 whole_front order s at block =
     if not (nat_eq (number32_at order (length block - 4) block) (length block)) then refused_front why.TrailerMismatch
-    else content order s at (block_type order block) block
+    else content order s at (kind_of order block) block
 
 -- what stands at the front of these bytes, where the order is told
 abbrev pub ordered_front : Option Order → Section → ℕ → List ℕ → Front
 ordered_front None s at bytes = refused_front why.Order
 ordered_front (Some order) s at bytes =
-    if not (is_block_length (block_type order bytes) (total_length order bytes)) then refused_front why.BlockLength
+    if not (is_block_length (kind_of order bytes) (total_length order bytes)) then refused_front why.BlockLength
     else (if nat_lt (length bytes) (total_length order bytes) then cut_front
     else whole_front order s at (take (total_length order bytes) bytes))
 

@@ -1,17 +1,20 @@
 //! Reads the block at the front of some bytes (the pcapng draft, 3.1 and 4).
 
-ghost use Rattle.std.specs.Prelude.{◌≡◌, ℕ, ◌+◌, ◌≤◌, ◌^◌, [], length, slice_get};
+ghost use Rattle.std.specs.Prelude.{◌≡◌, ℕ, ◌+◌, ◌≤◌, ◌^◌, true, [], length, slice_get, IfOk};
 ghost use Rattle.cd_bytes.specs.Numbers.{number32_at};
 ghost use Rattle.cd_pcapng.specs.Blocks.{is_section_header, head_length, told_order, order_of, least_length};
-ghost use Rattle.cd_pcapng.specs.Blocks.{is_block_length, block_type, section_front, interface_front, enhanced_front};
+ghost use Rattle.cd_pcapng.specs.Blocks.{is_block_length, kind_of, section_front, interface_front, enhanced_front};
 ghost use Rattle.cd_pcapng.specs.Blocks.{simple_front, content, whole_front};
 ghost use Rattle.cd_pcapng.specs.Sections.{Section, section_of, interface_in};
 ghost use Rattle.cd_pcapng.specs.Fronts.{FrontIs, Finds};
+ghost use Rattle.cd_pcapng.specs.declared.front.Content.TheVariants.{Section as IsSection};
+ghost use Rattle.cd_pcapng.specs.declared.kind.Kind.TheVariants.{SectionHeader};
 
 use crate::clock::{is_resolution, time_on};
 use crate::front::{Content, Front};
 use crate::interface::Interface;
 use crate::interface_options::{clock_options, padded};
+use crate::kind::Kind;
 use crate::ordered::{number16_at, number32_at};
 use crate::packet_place::PacketPlace;
 use cd_bytes::{Order, be32, le32};
@@ -87,21 +90,37 @@ fn order_of(order: Order, bytes: &[u8]) -> Option<Order>
     }
 }
 
-// The least length that a block of this type has.
-fn least_length(kind: u32) -> u32
-    ensures { result ≡ least_length kind }
+// The kind of the block at the front.
+fn kind_of(order: Order, bytes: &[u8]) -> Kind
+    requires { 4 ≤ length bytes.now }
+    ensures { result ≡ kind_of order bytes.now }
 {
-    match kind {
-        SECTION_HEADER => 28,
-        INTERFACE => 20,
-        ENHANCED_PACKET => 32,
-        SIMPLE_PACKET => 16,
-        _ => 12,
+    if has_magic(bytes, SECTION_HEADER) {
+        return Kind::SectionHeader;
+    }
+    match number32_at(order, bytes, 0) {
+        INTERFACE => Kind::Interface,
+        ENHANCED_PACKET => Kind::EnhancedPacket,
+        SIMPLE_PACKET => Kind::SimplePacket,
+        _ => Kind::Other,
     }
 }
 
-// Whether a block of this type may have this length.
-fn is_block_length(kind: u32, size: u32) -> bool
+// The least length that a block of this kind has.
+fn least_length(kind: Kind) -> u32
+    ensures { result ≡ least_length kind }
+{
+    match kind {
+        Kind::SectionHeader => 28,
+        Kind::Interface => 20,
+        Kind::EnhancedPacket => 32,
+        Kind::SimplePacket => 16,
+        Kind::Other => 12,
+    }
+}
+
+// Whether a block of this kind may have this length.
+fn is_block_length(kind: Kind, size: u32) -> bool
     ensures { result ≡ is_block_length kind size }
 {
     size >= least_length(kind) && size <= MOST_LENGTH && size % 4 == 0
@@ -199,39 +218,42 @@ fn simple_content(order: Order, interfaces: &[Interface], at: u64, block: &[u8])
     }))
 }
 
-// What a whole block of this type holds, whose two lengths agree.
+// What a whole block of this kind holds, whose two lengths agree.
 fn content_of(
     order: Order,
     interfaces: &[Interface],
     at: u64,
-    kind: u32,
+    kind: Kind,
     block: &[u8],
 ) -> Result<Content, CaptureWhy>
     requires long { least_length kind ≤ length block.now }
     requires few { at + length block.now ≤ 2 ^ 48 }
-    ensures { (before : Order) → Finds (section_of before interfaces.now) at block.now
+    ensures found { (before : Order) → Finds (section_of before interfaces.now) at block.now
         (content order (section_of before interfaces.now) at kind block.now) result }
+    ensures section { kind ≡ SectionHeader → IfOk result (λ found. (told : Order) × (found ≡ IsSection told)) }
 {
     match kind {
-        SECTION_HEADER => section_content(order, block),
-        INTERFACE => interface_content(order, interfaces, block),
-        ENHANCED_PACKET => enhanced_content(order, interfaces, at, block),
-        SIMPLE_PACKET => simple_content(order, interfaces, at, block),
-        _ => Ok(Content::Other),
+        Kind::SectionHeader => section_content(order, block),
+        Kind::Interface => interface_content(order, interfaces, block),
+        Kind::EnhancedPacket => enhanced_content(order, interfaces, at, block),
+        Kind::SimplePacket => simple_content(order, interfaces, at, block),
+        Kind::Other => Ok(Content::Other),
     }
 }
 
 // What a whole block holds.
 fn whole_content(order: Order, interfaces: &[Interface], at: u64, block: &[u8]) -> Result<Content, CaptureWhy>
-    requires long { least_length (block_type order block.now) ≤ length block.now }
+    requires long { least_length (kind_of order block.now) ≤ length block.now }
     requires few { at + length block.now ≤ 2 ^ 48 }
-    ensures { (before : Order) → Finds (section_of before interfaces.now) at block.now
+    ensures found { (before : Order) → Finds (section_of before interfaces.now) at block.now
         (whole_front order (section_of before interfaces.now) at block.now) result }
+    ensures section { is_section_header block.now ≡ true
+        → IfOk result (λ found. (told : Order) × (found ≡ IsSection told)) }
 {
     if number32_at(order, block, block.len() - 4) as usize != block.len() {
         return Err(CaptureWhy::TrailerMismatch);
     }
-    content_of(order, interfaces, at, number32_at(order, block, 0), block)
+    content_of(order, interfaces, at, kind_of(order, block), block)
 }
 
 /// What stands at the front of these bytes, which stand at this offset in a section of this order with these interfaces.
@@ -248,7 +270,7 @@ pub fn front_of(order: Order, interfaces: &[Interface], at: u64, bytes: &[u8]) -
         Some(told) => told,
     };
     let size = number32_at(told, bytes, 4);
-    if !is_block_length(number32_at(told, bytes, 0), size) {
+    if !is_block_length(kind_of(told, bytes), size) {
         return Front::Refused(CaptureWhy::BlockLength);
     }
     let size = size as usize;

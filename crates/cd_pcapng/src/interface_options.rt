@@ -83,9 +83,9 @@ fn next_offset(order: Order, offset: i64, option: &BlockOption) -> i64
     }
 }
 
-// So many bytes with their padding, up to a multiple of four.
-fn padded(size: usize) -> usize
-    requires { size ≤ 65535 }
+/// So many bytes with their padding, up to a multiple of four.
+pub fn padded(size: usize) -> usize
+    requires { size ≤ 262144 }
     ensures { result ≡ padded size }
 {
     (size + 3) / 4 * 4

@@ -20,6 +20,7 @@ mod clock;
 mod front;
 mod interface;
 mod interface_options;
+mod kind;
 pub mod laws;
 mod ordered;
 mod packet_place;
