@@ -10,13 +10,15 @@ use Rattle.cd_packet.specs.Capture.{Capture, refused_capture, after}
 use Rattle.cd_packet.specs.declared.capture.CaptureWhy.{CaptureWhy}
 use Rattle.cd_packet.specs.declared.capture.CaptureWhy.TheVariants.{Magic}
 use Rattle.cd_pcapng.specs.Blocks.{cut_front, refused_front, is_section_header, front_of}
-use Rattle.cd_pcapng.specs.Founds.{FoundSeen, section_in, added, place_in, BeginsBlock}
-use Rattle.cd_pcapng.specs.Fronts.{packet_in, front_with, HasBlock}
+use Rattle.cd_pcapng.specs.Founds.{FoundSeen, section_in, added, place_in, BeginsBlock, BeginsWith}
+use Rattle.cd_pcapng.specs.Fronts.{packet_in, front_with, HasBlock, FrontIs}
 use Rattle.cd_pcapng.specs.Pcapng.{blocks, pcapng}
 use Rattle.cd_pcapng.specs.Reading.{AreOpen, AreRefused, reading_on}
 use Rattle.cd_pcapng.specs.Sections.{Section, section_of, no_section}
 use Rattle.cd_pcapng.specs.declared.front.Content.{Content}
 use Rattle.cd_pcapng.specs.declared.front.Content.TheVariants as content_of
+use Rattle.cd_pcapng.specs.declared.front.Front.{Front}
+use Rattle.cd_pcapng.specs.declared.front.Front.TheVariants as front_in
 use Rattle.cd_pcapng.proofs.Capturing.{blocks-none, blocks-cut, blocks-refused, blocks-other, blocks-packet, pcapng-header, pcapng-magic}
 use Rattle.cd_pcapng.proofs.Framing.{header-append}
 
@@ -81,6 +83,7 @@ begins_block f order at bytes size found is within h =
       least = h.least;
       within = h.within;
       placed = h.placed;
+      first = λ none. let e : None ≡ Some order = sym none ∙ is in absurd cc;
       reads = λ more.
           ap (λ o. reading_on o at (front more)) (section_before order f is) ∙ blocks-block s at size bytes more found h
           ∙ ap (λ o. after (map (packet_in at bytes) (place_in found)) (reading_on o (at + size) more)) (sym (section_added order f found is within));
@@ -97,6 +100,7 @@ first_section f bytes size order is header h =
       least = h.least;
       within = h.within;
       placed = h.placed;
+      first = λ none. (order, refl);
       reads = λ more.
           ap (λ o. reading_on o 0 (take size bytes ++ more)) before
           ∙ pcapng-header (take size bytes ++ more) (front_header size bytes more header h.least h.within)
@@ -172,3 +176,25 @@ open_section f at bytes is start told header cut =
     let first : front_of no_section 0 bytes ≡ cut_front = ap (λ n. front_of no_section n bytes) (sym start) ∙ cut in
     let there : P None = rw (le-ltb (length bytes) 4 told) (pcapng-header bytes header ∙ blocks-cut no_section 0 bytes (omega (arith, told)) first) in
     subst P (sym before) there
+
+-- what the code finds at the front of bytes of a section
+pub front_begins : (f : FoundSeen) (order : Order) (at : ℕ) (bytes : List ℕ) (found : Front) → f.order ≡ Some order → f.first ≤ length f.interfaces →
+    FrontIs (section_of order (drop f.first f.interfaces)) at bytes found → BeginsWith f at bytes found
+front_begins f order at bytes front_in.Cut is within h = open_block f order at bytes is h
+front_begins f order at bytes (front_in.Refused why) is within h = refused_block f order at bytes why is h.0 h.1
+front_begins f order at bytes (front_in.Block size found) is within h = begins_block f order at bytes size found is within h
+
+-- what it finds at the front of a capture that begins with a section header
+pub first_begins : (f : FoundSeen) (at : ℕ) (bytes : List ℕ) (found : Front) → f.order ≡ None → at ≡ 0 → 4 ≤ length bytes → is_section_header bytes ≡ true →
+    FrontIs no_section at bytes found → BeginsWith f at bytes found
+first_begins f at bytes front_in.Cut is start told header h = open_section f at bytes is start told header h
+first_begins f at bytes (front_in.Refused why) is start told header h = record {
+  told = told;
+  reads = λ more.
+      let len : length (bytes ++ more) ≡ length bytes + length more = length-append bytes more in
+      let before : section_in f ≡ None = ap (λ m. option_map (λ (k : Order). section_of k (drop f.first f.interfaces)) m) is in
+      let first : front_of no_section 0 (bytes ++ more) ≡ refused_front why = ap (λ n. front_of no_section n (bytes ++ more)) (sym start) ∙ h.1 more in
+      ap (λ o. reading_on o at (bytes ++ more)) before ∙ pcapng-header (bytes ++ more) (header-append bytes more told ∙ header)
+      ∙ blocks-refused no_section 0 (bytes ++ more) why (omega (arith, len, told)) first ∙ ap (λ n. refused_capture n why) (sym start);
+}
+first_begins f at bytes (front_in.Block size found) is start told header h = begins_section f at bytes size found is start header h

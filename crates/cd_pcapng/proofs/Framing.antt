@@ -150,8 +150,9 @@ pub record HasHead (s : Section) (order : Order) (size : ℕ) (bytes : List ℕ)
   pub good : is_block_length (kind_of order (take size bytes)) (total_length order (take size bytes)) ≡ true
 
 pub block_head : (s : Section) (order : Order) (size : ℕ) (bytes : List ℕ) → order_of s bytes ≡ Some order → total_length order bytes ≡ size →
-    is_block_length (kind_of order bytes) size ≡ true → size ≤ length bytes → HasHead s order size bytes
-block_head s order size bytes told total good all =
+    is_block_length (kind_of order bytes) (total_length order bytes) ≡ true → size ≤ length bytes → HasHead s order size bytes
+block_head s order size bytes told total allowed all =
+    let good : is_block_length (kind_of order bytes) size ≡ true = ap (λ n. is_block_length (kind_of order bytes) n) (sym total) ∙ allowed in
     let least : 12 ≤ least_length (kind_of order bytes) = least_many (kind_of order bytes) in
     let much : least_length (kind_of order bytes) ≤ size = length-least (kind_of order bytes) size good in
     let front : List ℕ = take size bytes in

@@ -4,6 +4,7 @@ pub mod Framing
 pub mod Capturing
 pub mod Beginnings
 pub mod Passing
+pub mod Contents
 pub mod Extending
 pub mod Standing
 pub mod Refusals

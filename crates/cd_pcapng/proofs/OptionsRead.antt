@@ -1,5 +1,6 @@
 -- How the list of options goes on, and what it tells of a clock.
-use Rattle.std.proofs.Common.{◌≡◌, ℕ, zero, suc, ◌+◌, true, false, List, [], ◌∷◌, drop, ℤ, refl, ap, sym, ◌∙◌, arith}
+use Rattle.std.proofs.Common.{◌≡◌, ℕ, zero, suc, ◌+◌, true, false, List, [], ◌∷◌, length, drop, min, ℤ, refl, ap, sym, ◌∙◌, arith}
+use Rattle.std.proofs.lemmas.List.{drop_min}
 use Rattle.cd_bytes.specs.declared.order.Order.{Order}
 use Rattle.cd_pcapng.specs.Options.{BlockOption, padded, option_length, ends_options, option_at, options, next_resolution, resolution_after, next_offset, offset_after}
 
@@ -45,3 +46,16 @@ offset_more order bytes o old new all more is step h =
     let rest : List BlockOption = options order 0 (drop (4 + padded (option_length order bytes)) bytes) in
     ap (λ z. offset_after order z rest) (step ∙ ap (λ x. next_offset order old x) is)
     ∙ sym (ap (λ os. offset_after order old os) (options-more order bytes more)) ∙ h
+
+-- where no option is left, what was told holds
+pub resolution_none : (order : Order) (bytes : List ℕ) (old all : ℕ) → ends_options order bytes ≡ true → resolution_after old (options order 0 bytes) ≡ all → old ≡ all
+resolution_none order bytes old all ends h = sym (ap (λ os. resolution_after old os) (options-none order bytes ends)) ∙ h
+
+pub offset_none : (order : Order) (bytes : List ℕ) (old all : ℤ) → ends_options order bytes ≡ true → offset_after order old (options order 0 bytes) ≡ all → old ≡ all
+offset_none order bytes old all ends h = sym (ap (λ os. offset_after order old os) (options-none order bytes ends)) ∙ h
+
+-- the bytes after an option, of which there may be fewer
+pub rest_after : (order : Order) (bytes : List ℕ) (n size least : ℕ) → n ≡ option_length order bytes → size ≡ padded n → least ≡ min (4 + size) (length bytes) →
+    drop least bytes ≡ drop (4 + padded (option_length order bytes)) bytes
+rest_after order bytes n size least is pad few =
+    ap (λ k. drop k bytes) few ∙ drop_min (4 + size) bytes ∙ ap (λ k. drop (4 + k) bytes) (pad ∙ ap (λ k. padded k) is)

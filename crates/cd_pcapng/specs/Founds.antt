@@ -45,6 +45,7 @@ pub record BeginsBlock (f : FoundSeen) (at : ℕ) (bytes : List ℕ) (size : ℕ
   pub least : 12 ≤ size
   pub within : size ≤ length bytes
   pub placed : IsPlaced at found (at + size)
+  pub first : f.order ≡ None → (order : Order) × (found ≡ content_of.Section order)
   pub reads : (more : List ℕ) → reading_on (section_in f) at (take size bytes ++ more)
       ≡ after (map (packet_in at bytes) (place_in found)) (reading_on (section_in (added f found)) (at + size) more)
 

@@ -5,8 +5,8 @@ ghost use Rattle.cd_bytes.specs.Numbers.{number32_at};
 ghost use Rattle.cd_pcapng.specs.Blocks.{is_section_header, head_length, told_order, order_of, least_length};
 ghost use Rattle.cd_pcapng.specs.Blocks.{is_block_length, kind_of, section_front, interface_front, enhanced_front};
 ghost use Rattle.cd_pcapng.specs.Blocks.{simple_front, content, whole_front};
-ghost use Rattle.cd_pcapng.specs.Sections.{Section, section_of, interface_in};
-ghost use Rattle.cd_pcapng.specs.Fronts.{FrontIs, Finds};
+ghost use Rattle.cd_pcapng.specs.Sections.{Section, section_of, interface_in, ticks_in, captured_in, enhanced_packet};
+ghost use Rattle.cd_pcapng.specs.Fronts.{FrontIs, Finds, packet_in};
 ghost use Rattle.cd_pcapng.specs.declared.front.Content.TheVariants.{Section as IsSection};
 ghost use Rattle.cd_pcapng.specs.declared.kind.Kind.TheVariants.{SectionHeader};
 
@@ -46,6 +46,12 @@ const MOST_LENGTH: u32 = 16_777_216;
 
 // As many bytes has an enhanced packet block without captured bytes.
 const ENHANCED_LEAST: usize = 32;
+
+// The captured bytes of an enhanced packet stand so far from the start of its block.
+const ENHANCED_DATA: u64 = 28;
+
+// The captured bytes of a simple packet stand so far from the start of its block.
+const SIMPLE_DATA: u64 = 12;
 
 // The greatest captured length of a packet.
 const MOST_CAPTURED: usize = 262_144;
@@ -129,7 +135,8 @@ fn is_block_length(kind: Kind, size: u32) -> bool
 // A section header.
 fn section_content(order: Order, block: &[u8]) -> Result<Content, CaptureWhy>
     requires { 28 ≤ length block.now }
-    ensures { (s : Section) (at : ℕ) → Finds s at block.now (section_front order block.now) result }
+    ensures found { (s : Section) (at : ℕ) → Finds s at block.now (section_front order block.now) result }
+    ensures section { IfOk result (λ found. found ≡ IsSection order) }
 {
     if number16_at(order, block, 12) == MAJOR_VERSION {
         Ok(Content::Section(order))
@@ -167,6 +174,33 @@ fn interface_content(order: Order, interfaces: &[Interface], block: &[u8]) -> Re
     Ok(Content::Interface(interface))
 }
 
+// The time of an enhanced packet, in units.
+fn ticks_in(order: Order, block: &[u8]) -> u64
+    requires { 32 ≤ length block.now }
+    ensures { result ≡ ticks_in order block.now }
+{
+    u64::from(number32_at(order, block, 12)) * 0x1_0000_0000 + u64::from(number32_at(order, block, 16))
+}
+
+// The packet of an enhanced packet block, on this interface, of which so many bytes were captured.
+fn enhanced_place(order: Order, interface: &Interface, at: u64, block: &[u8], captured: usize) -> PacketPlace
+    requires captured { captured ≡ captured_in order block.now }
+    requires long { 32 + captured ≤ length block.now }
+    requires few { at + length block.now ≤ 2 ^ 48 }
+    ensures packet { packet_in at block.now result ≡ enhanced_packet order interface.now at block.now }
+    ensures from { at ≤ result.data }
+    ensures to { result.data + result.captured ≤ at + length block.now }
+{
+    PacketPlace {
+        at,
+        when: time_on(interface, ticks_in(order, block)),
+        link: interface.link,
+        original: number32_at(order, block, 24),
+        data: at + ENHANCED_DATA,
+        captured,
+    }
+}
+
 // An enhanced packet.
 fn enhanced_content(order: Order, interfaces: &[Interface], at: u64, block: &[u8]) -> Result<Content, CaptureWhy>
     requires long { 32 ≤ length block.now }
@@ -182,15 +216,7 @@ fn enhanced_content(order: Order, interfaces: &[Interface], at: u64, block: &[u8
     if captured > MOST_CAPTURED || block.len() < ENHANCED_LEAST + padded(captured) {
         return Err(CaptureWhy::Record);
     }
-    let ticks = u64::from(number32_at(order, block, 12)) * 0x1_0000_0000 + u64::from(number32_at(order, block, 16));
-    Ok(Content::Packet(PacketPlace {
-        at,
-        when: time_on(interface, ticks),
-        link: interface.link,
-        original: number32_at(order, block, 24),
-        data: at + 28,
-        captured,
-    }))
+    Ok(Content::Packet(enhanced_place(order, interface, at, block, captured)))
 }
 
 // A simple packet.
@@ -213,7 +239,7 @@ fn simple_content(order: Order, interfaces: &[Interface], at: u64, block: &[u8])
         when: When::Missing,
         link: interface.link,
         original,
-        data: at + 12,
+        data: at + SIMPLE_DATA,
         captured,
     }))
 }
@@ -230,7 +256,7 @@ fn content_of(
     requires few { at + length block.now ≤ 2 ^ 48 }
     ensures found { (before : Order) → Finds (section_of before interfaces.now) at block.now
         (content order (section_of before interfaces.now) at kind block.now) result }
-    ensures section { kind ≡ SectionHeader → IfOk result (λ found. (told : Order) × (found ≡ IsSection told)) }
+    ensures section { kind ≡ SectionHeader → IfOk result (λ found. found ≡ IsSection order) }
 {
     match kind {
         Kind::SectionHeader => section_content(order, block),
@@ -247,8 +273,7 @@ fn whole_content(order: Order, interfaces: &[Interface], at: u64, block: &[u8]) 
     requires few { at + length block.now ≤ 2 ^ 48 }
     ensures found { (before : Order) → Finds (section_of before interfaces.now) at block.now
         (whole_front order (section_of before interfaces.now) at block.now) result }
-    ensures section { is_section_header block.now ≡ true
-        → IfOk result (λ found. (told : Order) × (found ≡ IsSection told)) }
+    ensures section { is_section_header block.now ≡ true → IfOk result (λ found. found ≡ IsSection order) }
 {
     if number32_at(order, block, block.len() - 4) as usize != block.len() {
         return Err(CaptureWhy::TrailerMismatch);

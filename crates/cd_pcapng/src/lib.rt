@@ -17,6 +17,7 @@
 
 mod block;
 mod clock;
+mod found;
 mod front;
 mod interface;
 mod interface_options;
@@ -24,3 +25,6 @@ mod kind;
 pub mod laws;
 mod ordered;
 mod packet_place;
+mod pcapng_reader;
+
+pub use pcapng_reader::PcapngReader;
