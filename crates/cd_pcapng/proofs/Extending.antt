@@ -71,7 +71,7 @@ pcapng-grow xs more four =
     ]
 
 -- fewer than four bytes hold no packet
-pcapng-few : (bytes : List ℕ) → length bytes < 4 → (pcapng bytes).packets ≡ []
+pub pcapng-few : (bytes : List ℕ) → length bytes < 4 → (pcapng bytes).packets ≡ []
 pcapng-few bytes few = ap (λ (c : Capture). c.packets) (pcapng-magic bytes (has_magic-few 0x0a0d0d0a bytes few))
 
 -- any bytes as others come after them

@@ -2,9 +2,14 @@ pub mod Units
 pub mod OptionsRead
 pub mod Framing
 pub mod Capturing
-pub mod Beginnings
+pub mod Packets
 pub mod Passing
+pub mod Dropping
+pub mod Beginnings
 pub mod Contents
 pub mod Extending
+pub mod Wholes
+pub mod Sizes
+pub mod Places
 pub mod Standing
 pub mod Refusals

@@ -18,18 +18,18 @@ packet_in base bytes p = record {
   when = p.when;
   link = p.link;
   original = p.original;
-  bytes = take p.captured (drop (p.data - base) bytes);
+  bytes = take p.captured (drop (p.captured_at - base) bytes);
   timely = p.timely;
 }
 
 -- The captured bytes of these packets stand one after another, between these two offsets.
 abbrev pub ArePlaced : ℕ → List PacketPlace → ℕ → Type 0
 ArePlaced from [] to = from ≤ to
-ArePlaced from (p ∷ ps) to = (from ≤ p.data) × ArePlaced (p.data + p.captured) ps to
+ArePlaced from (p ∷ ps) to = (from ≤ p.captured_at) × ArePlaced (p.captured_at + p.captured) ps to
 
 -- where the content is a packet, its bytes stand between these two offsets
 abbrev pub IsPlaced : ℕ → Content → ℕ → Type 0
-IsPlaced from (content_of.Packet p) to = (from ≤ p.data) × (p.data + p.captured ≤ to)
+IsPlaced from (content_of.Packet p) to = (from ≤ p.captured_at) × (p.captured_at + p.captured ≤ to)
 IsPlaced from (content_of.Section order) to = from ≤ to
 IsPlaced from (content_of.Interface i) to = from ≤ to
 IsPlaced from content_of.Other to = from ≤ to

@@ -182,22 +182,29 @@ fn ticks_in(order: Order, block: &[u8]) -> u64
     u64::from(number32_at(order, block, 12)) * 0x1_0000_0000 + u64::from(number32_at(order, block, 16))
 }
 
-// The packet of an enhanced packet block, on this interface, of which so many bytes were captured.
-fn enhanced_place(order: Order, interface: &Interface, at: u64, block: &[u8], captured: usize) -> PacketPlace
-    requires captured { captured ≡ captured_in order block.now }
-    requires long { 32 + captured ≤ length block.now }
+// The captured length of an enhanced packet.
+fn captured_in(order: Order, block: &[u8]) -> usize
+    requires { 32 ≤ length block.now }
+    ensures { result ≡ captured_in order block.now }
+{
+    number32_at(order, block, 20) as usize
+}
+
+// The packet of an enhanced packet block, on this interface.
+fn enhanced_place(order: Order, interface: &Interface, at: u64, block: &[u8]) -> PacketPlace
+    requires long { 32 + captured_in order block.now ≤ length block.now }
     requires few { at + length block.now ≤ 2 ^ 48 }
     ensures packet { packet_in at block.now result ≡ enhanced_packet order interface.now at block.now }
-    ensures from { at ≤ result.data }
-    ensures to { result.data + result.captured ≤ at + length block.now }
+    ensures from { at ≤ result.captured_at }
+    ensures to { result.captured_at + result.captured ≤ at + length block.now }
 {
     PacketPlace {
         at,
         when: time_on(interface, ticks_in(order, block)),
         link: interface.link,
         original: number32_at(order, block, 24),
-        data: at + ENHANCED_DATA,
-        captured,
+        captured_at: at + ENHANCED_DATA,
+        captured: captured_in(order, block),
     }
 }
 
@@ -212,11 +219,11 @@ fn enhanced_content(order: Order, interfaces: &[Interface], at: u64, block: &[u8
         None => return Err(CaptureWhy::Interface),
         Some(interface) => interface,
     };
-    let captured = number32_at(order, block, 20) as usize;
+    let captured = captured_in(order, block);
     if captured > MOST_CAPTURED || block.len() < ENHANCED_LEAST + padded(captured) {
         return Err(CaptureWhy::Record);
     }
-    Ok(Content::Packet(enhanced_place(order, interface, at, block, captured)))
+    Ok(Content::Packet(enhanced_place(order, interface, at, block)))
 }
 
 // A simple packet.
@@ -239,7 +246,7 @@ fn simple_content(order: Order, interfaces: &[Interface], at: u64, block: &[u8])
         when: When::Missing,
         link: interface.link,
         original,
-        data: at + SIMPLE_DATA,
+        captured_at: at + SIMPLE_DATA,
         captured,
     }))
 }

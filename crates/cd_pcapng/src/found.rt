@@ -190,7 +190,7 @@ impl Found {
         ensures kept { Keeps self.old self.new }
     {
         let mut size = 0;
-        'blocks: loop {
+        'reading: loop {
             match self.front(at + size as u64, &bytes[size..]) {
                 Front::Cut => return Ok(WholeBlocks { size, refused: None }),
                 Front::Refused(why) => return Ok(WholeBlocks { size, refused: Some(why) }),

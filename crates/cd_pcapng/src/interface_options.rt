@@ -92,21 +92,35 @@ pub fn padded(size: usize) -> usize
     (size + 3) / 4 * 4
 }
 
+// The clock after an option.
+fn next_clock(order: Order, clock: ClockOptions, option: &BlockOption) -> ClockOptions
+    ensures resolution { result.resolution
+        ≡ next_resolution clock.resolution (record { code = option.now.code; value = option.now.value.now }) }
+    ensures offset { result.offset
+        ≡ next_offset order clock.offset (record { code = option.now.code; value = option.now.value.now }) }
+{
+    ClockOptions {
+        resolution: next_resolution(clock.resolution, option),
+        offset: next_offset(order, clock.offset, option),
+    }
+}
+
 /// The clock that the options in these bytes tell: the last one of each kind holds.
 pub fn clock_options(order: Order, bytes: &[u8]) -> ClockOptions
     ensures resolution { result.resolution ≡ resolution_of order bytes.now }
     ensures offset { result.offset ≡ offset_of order bytes.now }
 {
-    let mut resolution = MICROSECONDS;
-    let mut offset = 0;
+    let mut clock = ClockOptions {
+        resolution: MICROSECONDS,
+        offset: 0,
+    };
     let mut rest = bytes;
     'options: loop {
         let option = match option_at(order, rest) {
-            None => return ClockOptions { resolution, offset },
+            None => return clock,
             Some(option) => option,
         };
-        resolution = next_resolution(resolution, &option);
-        offset = next_offset(order, offset, &option);
+        clock = next_clock(order, clock, &option);
         let size = OPTION_HEADER + padded(option.value.len());
         rest = &rest[size.min(rest.len())..];
     }

@@ -16,7 +16,7 @@ pub struct PacketPlace {
     /// How many bytes the packet had.
     pub original: u32,
     /// The offset of its captured bytes.
-    pub data: u64,
+    pub captured_at: u64,
     /// How many bytes were captured.
     pub captured: usize,
     pub ghost timely: { (n : ℕ) → when ≡ At n → n < end_of_time },

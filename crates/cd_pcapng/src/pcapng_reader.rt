@@ -63,12 +63,12 @@ impl Model for PcapngReader {
 
 // The packet at a place, among these bytes at this offset.
 fn packet_in(alloc: Global, base: u64, bytes: &[u8], place: PacketPlace) -> Result<Packet, AllocError>
-    requires from { base ≤ place.data }
-    requires to { place.data + place.captured ≤ base + length bytes.now }
+    requires from { base ≤ place.captured_at }
+    requires to { place.captured_at + place.captured ≤ base + length bytes.now }
     requires few { base + length bytes.now ≤ 2 ^ 48 }
     ensures { IfOk result (λ p. p ≡ packet_in base bytes.now place) }
 {
-    let from = (place.data - base) as usize;
+    let from = (place.captured_at - base) as usize;
     let captured = &bytes[from..from + place.captured];
     Ok(Packet {
         at: place.at,
@@ -85,7 +85,7 @@ fn first_wanted(found: &Found, at: u64) -> u64
         → (base ≤ result) × (result ≤ at) × ArePlaced result found.now.ready at }
 {
     match found.first_ready() {
-        Some(place) => place.data,
+        Some(place) => place.captured_at,
         None => at,
     }
 }

@@ -16,6 +16,6 @@ options-preserved c =
     rest_after c.args.order c.options.rest.now _ c.padded-size.result c.min.result c.in-Some.ensures.3 c.padded-size.ensures c.min.ensures in
     rw (take_rest, next)
     (record {
-      resolution = resolution_more _ _ _ _ _ _ c.in-Some.ensures.0 c.in-Some.ensures.1 c.next_resolution-resolution.ensures c.options.invariant.resolution;
-      offset = offset_more _ _ _ _ _ _ c.in-Some.ensures.0 c.in-Some.ensures.1 c.next_offset-offset.ensures c.options.invariant.offset;
+      resolution = resolution_more _ _ _ _ _ _ c.in-Some.ensures.0 c.in-Some.ensures.1 c.next_clock-clock.ensures.resolution c.options.invariant.resolution;
+      offset = offset_more _ _ _ _ _ _ c.in-Some.ensures.0 c.in-Some.ensures.1 c.next_clock-clock.ensures.offset c.options.invariant.offset;
     })
