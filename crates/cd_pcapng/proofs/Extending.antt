@@ -16,7 +16,7 @@ use Rattle.cd_pcapng.proofs.Capturing.{blocks-cut, pcapng-header, pcapng-magic}
 use Rattle.cd_pcapng.proofs.Framing.{header-append, front-short, front-order, front-length, front-cut, front-whole, order-stays, length-stays, whole-stays}
 
 -- some order, or none
-told_cases : (o : Option Order) → (o ≡ None) ⊎ ((order : Order) × (o ≡ Some order))
+pub told_cases : (o : Option Order) → (o ≡ None) ⊎ ((order : Order) × (o ≡ Some order))
 told_cases None = inl refl
 told_cases (Some order) = inr (order, refl)
 

@@ -5,6 +5,7 @@ pub mod Capturing
 pub mod Packets
 pub mod Passing
 pub mod Dropping
+pub mod Advancing
 pub mod Beginnings
 pub mod Contents
 pub mod Extending

@@ -116,7 +116,7 @@ keeps_all f = record { ready = take-length f.ready; interfaces = take-length f.i
 
 -- so it is as one more is added
 pub keeps_more : (old f : FoundSeen) (found : Content) → Keeps old f → Keeps old (added f found)
-keeps_more old f (content_of.Section order) h = h
+keeps_more old f (content_of.Section order) h = record { ready = h.ready; interfaces = h.interfaces }
 keeps_more old f content_of.Other h = h
 keeps_more old f (content_of.Packet p) h = record {
   ready = take-append-le (length old.ready) f.ready (p ∷ []) (kept_length old.ready f.ready h.ready) ∙ h.ready;

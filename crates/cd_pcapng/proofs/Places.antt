@@ -22,9 +22,9 @@ not_none [] p rest e = cc
 not_none (q ∷ before) p rest e = cc
 
 -- So many of the bytes stand before a packet, and they hold those before it.
-record HasBefore (s : Section) (inside at : ℕ) (bytes : List ℕ) (before : List Packet) (place : ℕ) : Type 0 where
+record HasBefore (s : Section) (inside at : ℕ) (bytes : List ℕ) (before : List Packet) (offset : ℕ) : Type 0 where
   pub size : ℕ
-  pub place : place ≡ at + size
+  pub place : offset ≡ at + size
   pub least : inside ≤ size
   pub within : size ≤ length bytes
   pub packets : (blocks s inside at (take size bytes)).packets ≡ before

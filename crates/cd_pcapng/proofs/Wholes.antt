@@ -1,15 +1,17 @@
 -- What is known of each front.
-use Rattle.std.proofs.Common.{◌≡◌, ℕ, ◌+◌, ◌≤◌, ◌⊎◌, Bool, true, false, cond, Option, Some, None, List, ◌++◌, length, take, drop, refl, sym, ◌∙◌, arith, subst, inl, inr}
+use Rattle.std.proofs.Common.{◌≡◌, ℕ, ◌+◌, ◌-◌, ◌≤◌, ◌⊎◌, Bool, true, false, cond, not, ◌||◌, nat_lt, nat_eq, Option, Some, None, List, [], ◌∷◌, ◌++◌, length, take, drop, refl, sym, ◌∙◌, arith, subst, inl, inr}
 use Rattle.std.proofs.lemmas.Bool.{cases_lt, cases_Bool}
 use Rattle.std.proofs.lemmas.List.{length-take, length-take-le, length-drop}
 use Rattle.std.specs.Prelude.{slice_get}
-use Rattle.cd_bytes.specs.Numbers.{number32_at}
+use Rattle.cd_bytes.specs.Numbers.{number16_at, number32_at}
 use Rattle.cd_bytes.specs.declared.order.Order.{Order}
 use Rattle.cd_packet.specs.declared.capture.CaptureWhy.{CaptureWhy}
 use Rattle.cd_packet.specs.declared.capture.CaptureWhy.TheVariants as why
 use Rattle.cd_packet.specs.declared.packet.Packet.{Packet}
-use Rattle.cd_pcapng.specs.Blocks.{Front, cut_front, refused_front, other_block, packet_block, head_length, order_of, kind_of, total_length, least_length, is_block_length, enhanced_front, simple_front, content, whole_front, front_of}
-use Rattle.cd_pcapng.specs.Sections.{Section, captured_in, simple_captured}
+use Rattle.cd_pcapng.specs.Blocks.{Front, cut_front, refused_front, other_block, packet_block, head_length, order_of, kind_of, total_length, least_length, is_block_length, interface_front, enhanced_front, simple_front, content, whole_front, front_of}
+use Rattle.cd_pcapng.specs.Options.{padded}
+use Rattle.cd_pcapng.specs.Sections.{Section, section_of, interface_in, captured_in, enhanced_packet, simple_captured, simple_packet}
+use Rattle.cd_pcapng.specs.Times.{is_resolution}
 use Rattle.cd_pcapng.specs.declared.interface.Interface.{Interface}
 use Rattle.cd_pcapng.specs.declared.kind.Kind.{Kind}
 use Rattle.cd_pcapng.specs.declared.kind.Kind.TheVariants as kind
@@ -32,16 +34,32 @@ chosen at size false x y h k = k
 enhanced_length : (order : Order) (o : Option Interface) (at : ℕ) (block : List ℕ) → 32 ≤ length block → HasLength at (length block) (enhanced_front order o at block)
 enhanced_length order None at block long = tt
 enhanced_length order (Some i) at block long =
-    chosen at (length block) _ _ _ tt (refl, refl, omega (arith, long, length-take (captured_in order block) (drop 28 block), length-drop 28 block))
+    let large : Bool = nat_lt 262144 (captured_in order block) || nat_lt (length block) (32 + padded (captured_in order block)) in
+    let p : Packet = enhanced_packet order i at block in
+    let fits : HasLength at (length block) (packet_block p (length block)) =
+    (refl, refl, omega (arith, long, length-take (captured_in order block) (drop 28 block), length-drop 28 block)) in
+    chosen at (length block) large (refused_front why.Record) (packet_block p (length block)) tt fits
 
 simple_length : (order : Order) (o : Option Interface) (at : ℕ) (block : List ℕ) → 16 ≤ length block → HasLength at (length block) (simple_front order o at block)
 simple_length order None at block long = tt
 simple_length order (Some i) at block long =
-    chosen at (length block) _ _ _ tt (refl, refl, omega (arith, long, length-take (simple_captured order block) (drop 12 block)))
+    let p : Packet = simple_packet order i at block in
+    let few : simple_captured order block ≤ length block - 16 = omega arith in
+    let fits : HasLength at (length block) (packet_block p (length block)) =
+    (refl, refl, omega (arith, long, few, length-take (simple_captured order block) (drop 12 block))) in
+    chosen at (length block) (nat_lt 262144 (simple_captured order block)) (refused_front why.Record) (packet_block p (length block)) tt fits
+
+interface_length : (order : Order) (s : Section) (at : ℕ) (block : List ℕ) → HasLength at (length block) (interface_front order s block)
+interface_length order s at block =
+    let next : Front = other_block (record s { interfaces = s.interfaces ++ interface_in order block ∷ [] }) (length block) in
+    let bad : Bool = not (is_resolution (interface_in order block).resolution) in
+    chosen at (length block) (not (nat_lt (length s.interfaces) 65536)) (refused_front why.Interface) (cond bad (refused_front why.Resolution) next) tt
+    (chosen at (length block) bad (refused_front why.Resolution) next tt refl)
 
 content_length : (order : Order) (s : Section) (at : ℕ) (k : Kind) (block : List ℕ) → least_length k ≤ length block → HasLength at (length block) (content order s at k block)
-content_length order s at kind.SectionHeader block long = chosen at (length block) _ _ _ refl tt
-content_length order s at kind.Interface block long = chosen at (length block) _ _ _ tt (chosen at (length block) _ _ _ tt refl)
+content_length order s at kind.SectionHeader block long =
+    chosen at (length block) (nat_eq (number16_at order 12 block) 1) (other_block (section_of order []) (length block)) (refused_front why.Section) refl tt
+content_length order s at kind.Interface block long = interface_length order s at block
 content_length order s at kind.EnhancedPacket block long = enhanced_length order (slice_get s.interfaces (number32_at order 8 block)) at block long
 content_length order s at kind.SimplePacket block long = simple_length order (slice_get s.interfaces 0) at block long
 content_length order s at kind.Other block long = refl
@@ -73,7 +91,9 @@ front_cases s at bytes =
     ]
   where
     whole_length : (order : Order) (s : Section) (at : ℕ) (block : List ℕ) → least_length (kind_of order block) ≤ length block → HasLength at (length block) (whole_front order s at block)
-    whole_length order s at block many = chosen at (length block) _ _ _ tt (content_length order s at (kind_of order block) block many)
+    whole_length order s at block many =
+        chosen at (length block) (not (nat_eq (number32_at order (length block - 4) block) (length block))) (refused_front why.TrailerMismatch)
+        (content order s at (kind_of order block) block) tt (content_length order s at (kind_of order block) block many)
     whole_front_is : (s : Section) (at : ℕ) (bytes : List ℕ) (order : Order) → head_length bytes ≤ length bytes → order_of s bytes ≡ Some order →
         is_block_length (kind_of order bytes) (total_length order bytes) ≡ true → total_length order bytes ≤ length bytes → IsWhole s at bytes (front_of s at bytes)
     whole_front_is s at bytes order long told good all =

@@ -72,6 +72,7 @@ IsStopped (Some why) section at bytes = AreRefused section at (record { at = at;
 -- What was found in all whole blocks of these bytes, which stand at this offset.
 pub record FindsAll (old new : FoundSeen) (at : ℕ) (bytes : List ℕ) (b : WholeBlocks) : Type 0 where
   pub passes : Passes old new at bytes b.size
+  pub started : new.order ≡ None → at + b.size ≡ 0
   pub stopped : IsStopped b.refused (section_in new) (at + b.size) (drop b.size bytes)
 
 -- what was found before is still there, before what else was found

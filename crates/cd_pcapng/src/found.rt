@@ -106,12 +106,13 @@ impl Found {
 
     // How much is found.
     fn amount(&self) -> Amount
-        ensures { result ≡ record {
+        ensures seen { result ≡ record {
           ready = length self.now.ready;
           interfaces = length self.now.interfaces;
           first = self.now.first;
           order = self.now.order;
         } }
+        ensures sound { result.first ≤ result.interfaces }
     {
         Amount {
             ready: self.ready.len(),

@@ -1,7 +1,7 @@
 //! A reader of a pcapng capture that comes in chunks.
 
-ghost use Rattle.std.specs.Prelude.{◌≡◌, ℕ, ◌+◌, ◌<◌, ◌≤◌, ◌^◌, [], ◌++◌, List, length, Option, Some, None, is_some, OnOk, OnErr};
-ghost use Rattle.std.specs.Prelude.{IfOk};
+ghost use Rattle.std.specs.Prelude.{◌≡◌, ℕ, ◌+◌, ◌<◌, ◌≤◌, ◌^◌, [], ◌++◌, ◌-◌, List, length, take, Option, Some, None, is_some};
+ghost use Rattle.std.specs.Prelude.{OnOk, OnErr, IfOk};
 ghost use Rattle.cd_pcapng.specs.Fronts.{packet_in, ArePlaced};
 ghost use Rattle.cd_pcapng.specs.Reading.{open_end};
 ghost use Rattle.cd_pcapng.specs.Sections.{Section};
@@ -149,6 +149,34 @@ impl PcapngReader {
         Ok(())
     }
 
+    // Holds a chunk after the other bytes. For want of memory nothing changes.
+    fn hold(&mut self, chunk: &[u8]) -> Result<(), AllocError>
+        requires { self.old.fed_count + length chunk.now ≤ 2 ^ 48 }
+        ensures ok { OnOk result (self.new ≡ record self.old {
+          fed_count = self.old.fed_count + length chunk.now;
+          held = self.old.held ++ chunk.now;
+        }) }
+        ensures err { OnErr result (self.new ≡ self.old) }
+    {
+        self.drop_unwanted();
+        self.bytes.extend_from_slice(chunk)?;
+        self.fed_count += chunk.len() as u64;
+        Ok(())
+    }
+
+    // Takes back the last bytes that are held.
+    fn take_back(&mut self, count: usize)
+        requires held { count ≤ length self.old.held }
+        ensures { self.new ≡ record self.old {
+          fed_count = self.old.fed_count - count;
+          held = take (length self.old.held - count) self.old.held;
+        } }
+    {
+        let left = self.bytes.len() - count;
+        self.bytes.truncate(left);
+        self.fed_count -= count as u64;
+    }
+
     // Holds a chunk and reads the blocks that are whole then. For want of memory nothing changes.
     fn take_chunk(&mut self, chunk: &[u8]) -> Result<(), AllocError>
         requires few { self.old.fed_count + length chunk.now ≤ 2 ^ 48 }
@@ -158,15 +186,11 @@ impl PcapngReader {
         ensures count { OnOk result (self.new.fed_count ≡ self.old.fed_count + length chunk.now) }
         ensures unchanged { OnErr result (self.new ≡ self.old) }
     {
-        self.drop_unwanted();
-        let before = self.bytes.len();
-        self.bytes.extend_from_slice(chunk)?;
-        self.fed_count += chunk.len() as u64;
+        self.hold(chunk)?;
         match self.read_blocks() {
             Ok(()) => Ok(()),
             Err(AllocError) => {
-                self.bytes.truncate(before);
-                self.fed_count -= chunk.len() as u64;
+                self.take_back(chunk.len());
                 Err(AllocError)
             }
         }

@@ -1,19 +1,20 @@
-use Rattle.std.proofs.Common.{◌≡◌, ◌∙◌, true, sym}
+use Rattle.std.proofs.Common.{◌≡◌, ◌∙◌, true, None, ap, sym}
 use Rattle.std.proofs.lemmas.List.{take_rest}
 use Rattle.cd_pcapng.specs.Blocks.{is_section_header}
+use Rattle.cd_pcapng.specs.Founds.{FoundSeen}
 use Rattle.cd_pcapng.proofs.Beginnings.{front_begins, first_begins, refused_magic, open_few}
 use Rattle.cd_pcapng.proofs.found.Found.front.Goals as goal
 
 pub returns-then-bytes-lt-MAGIC_SIZE : goal.returns-then-bytes-lt-MAGIC_SIZE
 returns-then-bytes-lt-MAGIC_SIZE c =
-    rw (← c.self.view_is) (open_few _ c.args.at c.args.bytes.now c.in-None.is c.if-bytes-lt-MAGIC_SIZE.true)
+    let none : c.args.self.now.order ≡ None = ap (λ (f : FoundSeen). f.order) (sym c.self.view_is) ∙ c.in-None.is in
+    open_few c.args.self.now c.args.at c.args.bytes.now none c.if-bytes-lt-MAGIC_SIZE.true
 
 pub returns-then-not-has_magic : goal.returns-then-not-has_magic
 returns-then-not-has_magic c =
-    let start = rw (← c.self.view_is) at c.requires.start in
-    rw (← c.self.view_is)
-    (refused_magic _ c.args.at c.args.bytes.now c.in-None.is (start c.in-None.is) c.if-bytes-lt-MAGIC_SIZE.false
-    (sym c.has_magic.ensures ∙ c.if-not-has_magic.true))
+    let none : c.args.self.now.order ≡ None = ap (λ (f : FoundSeen). f.order) (sym c.self.view_is) ∙ c.in-None.is in
+    refused_magic c.args.self.now c.args.at c.args.bytes.now none (c.requires.start none) c.if-bytes-lt-MAGIC_SIZE.false
+    (sym c.has_magic.ensures ∙ c.if-not-has_magic.true)
 
 pub returns-in-Some : goal.returns-in-Some
 returns-in-Some c =
@@ -22,8 +23,7 @@ returns-in-Some c =
 
 pub returns-else-not-has_magic : goal.returns-else-not-has_magic
 returns-else-not-has_magic c =
-    let start = rw (← c.self.view_is) at c.requires.start in
+    let none : c.args.self.now.order ≡ None = ap (λ (f : FoundSeen). f.order) (sym c.self.view_is) ∙ c.in-None.is in
     let header : is_section_header c.args.bytes.now ≡ true = sym c.has_magic.ensures ∙ c.if-not-has_magic.false in
-    rw (← c.self.view_is)
-    (first_begins _ c.args.at c.args.bytes.now c.front_of-in-None.result c.in-None.is (start c.in-None.is) c.if-bytes-lt-MAGIC_SIZE.false header
-    c.front_of-in-None.ensures)
+    first_begins c.args.self.now c.args.at c.args.bytes.now c.front_of-in-None.result none (c.requires.start none) c.if-bytes-lt-MAGIC_SIZE.false header
+    c.front_of-in-None.ensures
