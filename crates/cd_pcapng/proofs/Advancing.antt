@@ -1,6 +1,6 @@
 -- A reader as it goes on over the whole blocks that it holds.
 use Rattle.std.proofs.Common.{◌≡◌, ℕ, ◌+◌, ◌-◌, ◌≤◌, Option, Some, None, List, [], ◌∷◌, ◌++◌, length, take, drop, map, refl, ap, sym, ◌∙◌, subst, arith, length-append}
-use Rattle.std.proofs.lemmas.List.{drop-drop, drop_all, length-drop, length-take-le, map-append, take-append-drop, take-append-le, take_all}
+use Rattle.std.proofs.lemmas.List.{drop-append-le, drop-drop, drop-take, drop_all, length-drop, length-take-le, map-append, take-append-drop, take-append-le, take_all}
 use Rattle.std.proofs.Math.Seq.{take-append_seam}
 use Rattle.std.specs.Prelude.{option_map}
 use Rattle.cd_bytes.specs.declared.order.Order.{Order}
@@ -122,3 +122,38 @@ pub taken_back : (held chunk : List ℕ) → take (length (held ++ chunk) - leng
 taken_back held chunk =
     let size : length (held ++ chunk) - length chunk ≡ length held = omega (arith, length-append held chunk) in
     ap (λ n. take n (held ++ chunk)) size ∙ take-append_seam held chunk
+
+-- packets among bytes that go on after them
+packets_in-append : (base to : ℕ) (bytes more : List ℕ) (ps : List PacketPlace) (from : ℕ) → base ≤ from → to ≤ base + length bytes → ArePlaced from ps to →
+    map (packet_in base (bytes ++ more)) ps ≡ map (packet_in base bytes) ps
+packets_in-append base to bytes more [] from far near h = refl
+packets_in-append base to bytes more (p ∷ ps) from far near h =
+    let end = placed_order (p.captured_at + p.captured) to ps h.1 in
+    let first : packet_in base (bytes ++ more) p ≡ packet_in base bytes p = packet_in-append base bytes more p (omega (arith, far, h.0)) (omega (arith, end, near)) in
+    let others = packets_in-append base to bytes more ps (p.captured_at + p.captured) (omega (arith, far, h.0)) near h.1 in
+    ap (λ q. q ∷ map (packet_in base (bytes ++ more)) ps) first ∙ ap (λ qs. packet_in base bytes p ∷ qs) others
+
+-- a chunk is held after the other bytes
+pub held_view : (fed_count count base start : ℕ) (bytes more : List ℕ) (f : FoundSeen) (refused : Option BadCapture) → start ≤ length bytes → ArePlaced base f.ready (base + start) →
+    kept_in count base start (bytes ++ more) f refused ≡ record (kept_in fed_count base start bytes f refused) { fed_count = count; held = drop start bytes ++ more }
+held_view fed_count count base start bytes more f refused within placed =
+    let ready : map (packet_in base (bytes ++ more)) f.ready ≡ map (packet_in base bytes) f.ready =
+    packets_in-append base (base + start) bytes more f.ready base (omega arith) (omega (arith, within)) placed in
+    let held : drop start (bytes ++ more) ≡ drop start bytes ++ more = drop-append-le start bytes more within in
+    let of : List Packet → List ℕ → Kept = λ ps t. record { fed_count = count; ready = ps; held = t; at = base + start; section = section_in f; refused = refused } in
+    ap (λ ps. of ps (drop start (bytes ++ more))) ready ∙ ap (λ t. of (map (packet_in base bytes) f.ready) t) held
+
+-- the last bytes that are held are taken back
+pub back_view : (fed_count left base start count : ℕ) (bytes : List ℕ) (f : FoundSeen) (refused : Option BadCapture) → start ≤ length bytes → count ≤ length (drop start bytes) →
+    ArePlaced base f.ready (base + start) → kept_in left base start (take (length bytes - count) bytes) f refused
+    ≡ record (kept_in fed_count base start bytes f refused) { fed_count = left; held = take (length (drop start bytes) - count) (drop start bytes) }
+back_view fed_count left base start count bytes f refused within few placed =
+    let m : ℕ = length bytes - count in
+    let size : length (drop start bytes) ≡ length bytes - start = length-drop start bytes in
+    let ready : map (packet_in base (take m bytes)) f.ready ≡ map (packet_in base bytes) f.ready =
+    packets_in-take base m (base + start) bytes f.ready base (omega arith) (omega (arith, within, few, size)) (omega arith) placed in
+    let sum : m ≡ start + (length (drop start bytes) - count) = omega (arith, within, few, size) in
+    let held : drop start (take m bytes) ≡ take (length (drop start bytes) - count) (drop start bytes) =
+    ap (λ n. drop start (take n bytes)) sum ∙ drop-take start (length (drop start bytes) - count) bytes in
+    let of : List Packet → List ℕ → Kept = λ ps t. record { fed_count = left; ready = ps; held = t; at = base + start; section = section_in f; refused = refused } in
+    ap (λ ps. of ps (drop start (take m bytes))) ready ∙ ap (λ t. of (map (packet_in base bytes) f.ready) t) held

@@ -100,9 +100,9 @@ blocks_before s (suc inside) at (b ∷ xs) before rest p h =
     record { size = suc k.size; place = omega (arith, k.place); least = omega (arith, k.least); within = omega (arith, k.within); packets = k.packets }
 blocks_before s zero at (b ∷ xs) before rest p h =
     elim (front_cases s at (b ∷ xs)) [
-      | inl cut ↦ absurd (none_in _ before p rest (ap (λ (c : Capture). c.packets) (blocks-cut s at (b ∷ xs) (omega arith) cut)) h)
+      | inl cut ↦ absurd (none_in (blocks s 0 at (b ∷ xs)) before p rest (ap (λ (c : Capture). c.packets) (blocks-cut s at (b ∷ xs) (omega arith) cut)) h)
       | inr more ↦ elim more [
-        | inl refused ↦ absurd (none_in _ before p rest (ap (λ (c : Capture). c.packets) (blocks-refused s at (b ∷ xs) refused.0 (omega arith) refused.1)) h)
+        | inl refused ↦ absurd (none_in (blocks s 0 at (b ∷ xs)) before p rest (ap (λ (c : Capture). c.packets) (blocks-refused s at (b ∷ xs) refused.0 (omega arith) refused.1)) h)
         | inr w ↦ before_front (front_of s at (b ∷ xs)) s at b xs w (λ t inside. blocks_before t inside (at + 1) xs) before rest p h
       ]
     ]
@@ -131,7 +131,7 @@ first_blocks bytes size before header within h =
 pub packets_in_order : PacketsStandInOrder
 packets_in_order bytes before rest p h =
     elim (cases_Bool (is_section_header bytes)) [
-      | inr other ↦ absurd (none_in _ before p rest (ap (λ (c : Capture). c.packets) (pcapng-magic bytes other)) h)
+      | inr other ↦ absurd (none_in (pcapng bytes) before p rest (ap (λ (c : Capture). c.packets) (pcapng-magic bytes other)) h)
       | inl header ↦
           let k = blocks_before no_section 0 0 bytes before rest p (sym (ap (λ (c : Capture). c.packets) (pcapng-header bytes header)) ∙ h) in
           let place : p.at ≡ k.size = omega (arith, k.place) in
