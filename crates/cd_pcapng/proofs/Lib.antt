@@ -1,0 +1,16 @@
+pub mod Units
+pub mod OptionsRead
+pub mod Framing
+pub mod Capturing
+pub mod Packets
+pub mod Passing
+pub mod Dropping
+pub mod Advancing
+pub mod Beginnings
+pub mod Contents
+pub mod Extending
+pub mod Wholes
+pub mod Sizes
+pub mod Places
+pub mod Standing
+pub mod Refusals

@@ -1,0 +1,10 @@
+pub mod Times
+pub mod Options
+pub mod Sections
+pub mod Blocks
+pub mod Pcapng
+pub mod Fronts
+pub mod Reading
+pub mod Founds
+pub mod Giving
+pub mod Laws
