@@ -14,7 +14,7 @@ mod stored_address;
 mod ticks;
 
 pub use address_prefix::prefix;
-pub use dropping::dropped;
+pub use dropping::{dropped, dropped_by};
 pub use item::{bare_item, keeps_signatures, kept_item, kept_query_name, lead_question};
 pub use keeper::Keeper;
 pub use lists::{hinted_records, is_kept, kept_rdata, kept_ttl, later_questions};

@@ -24,7 +24,7 @@ mod record;
 mod settings;
 
 pub use keeping::{
-    Keeper, StoredAddress, bare_item, bare_signature, dropped, hinted_records, is_kept,
+    Keeper, StoredAddress, bare_item, bare_signature, dropped, dropped_by, hinted_records, is_kept,
     keeps_signatures, kept_classtype, kept_client_address, kept_item, kept_malformed, kept_options,
     kept_query_name, kept_rdata, kept_server_address, kept_ttl, later_questions, lead_question,
     prefix, tick_of,

@@ -70,12 +70,19 @@ fn dropped_of(keeper: &Keeper, of_query: bool, message: Option<&Message>) -> u64
 }
 
 /// How many resource records in the messages of a record have a type that is not listed, whatever the hints are. The
-/// OPT record of a query is not counted. 0 for a malformed message, and for one whose opcode is not listed. Where the
-/// types ascend, a resource record costs a binary search among them.
+/// OPT record of a query is not counted. 0 for a malformed message, and for one whose opcode is not listed.
+pub fn dropped_by(keeper: &Keeper, rec: &Rec) -> u64
+    ensures { result ≡ Lists.dropped keeper.now.rr_types (record_parts rec.now) }
+{
+    dropped_of(keeper, true, rec.query_message())
+        + dropped_of(keeper, false, rec.response_message())
+}
+
+/// The same under these settings, valid or not. Whether their types ascend is looked up at each call; where they do, a
+/// resource record costs a binary search among them.
 pub fn dropped(settings: &Settings, rec: &Rec) -> u64
     ensures { result ≡ Lists.dropped settings.now.params.rr_types (record_parts rec.now) }
 {
     let keeper = Keeper::new(&settings.params);
-    dropped_of(&keeper, true, rec.query_message())
-        + dropped_of(&keeper, false, rec.response_message())
+    dropped_by(&keeper, rec)
 }
