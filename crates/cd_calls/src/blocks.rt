@@ -17,12 +17,25 @@ fn index(wrong: u8, table: u8) -> u64 {
     if wrong == table { 1 } else { 0 }
 }
 
-fn one<T: Drop>(alloc: Global, value: T) -> Result<List<T>, AllocError> {
-    let mut values = Vec::new(alloc);
+fn add<T: Drop>(values: &mut List<T>, value: T) -> Result<(), AllocError> {
     match values.push(value) {
-        Ok(()) => Ok(List::from_vec(values)),
+        Ok(()) => Ok(()),
         Err(_) => Err(AllocError),
     }
+}
+
+fn add_bytes(alloc: Global, values: &mut List<Blob>, bytes: &[u8]) -> Result<(), AllocError> {
+    add(values, Blob::from_slice(alloc, bytes)?)
+}
+
+fn add_index(alloc: Global, lists: &mut List<List<u64>>, index: u64) -> Result<(), AllocError> {
+    let mut list = no_values(alloc);
+    add(&mut list, index)?;
+    add(lists, list)
+}
+
+fn no_values<T: Drop>(alloc: Global) -> List<T> {
+    List::from_vec(Vec::new(alloc))
 }
 
 fn signature(wrong: u8) -> BlockSig {
@@ -76,47 +89,65 @@ fn malformed(wrong: u8) -> BlockMalformed {
     }
 }
 
-// A block each of whose tables has one entry, and that uses each of them. The index into the table that is wrong is 1.
-fn block(alloc: Global, wrong: u8, name: &[u8]) -> Result<Block, AllocError> {
-    let question = BlockQuestion {
-        name: 0,
-        classtype: 0,
-    };
-    let rr = BlockRr {
-        name: 0,
-        classtype: 0,
-        ttl: None,
-        rdata: Some(0),
-    };
-    let data = BlockData {
-        server_address: Some(0),
-        server_port: None,
-        transport_flags: None,
-        payload: None,
-    };
-    let questions = one(alloc, index(wrong, 5))?;
-    let records = one(alloc, index(wrong, 7))?;
-    Ok(Block {
+const QUESTION: BlockQuestion = BlockQuestion {
+    name: 0,
+    classtype: 0,
+};
+
+const RECORD: BlockRr = BlockRr {
+    name: 0,
+    classtype: 0,
+    ttl: None,
+    rdata: Some(0),
+};
+
+const DATA: BlockData = BlockData {
+    server_address: Some(0),
+    server_port: None,
+    transport_flags: None,
+    payload: None,
+};
+
+// A block with nothing in it.
+fn empty_block(alloc: Global) -> Block {
+    Block {
         earliest: None,
         params: 0,
         stats: None,
-        items: one(alloc, item(wrong))?,
-        malformed: one(alloc, malformed(wrong))?,
-        ip_address: one(alloc, Blob::from_slice(alloc, b"\x7f")?)?,
-        classtype: one(alloc, (1, 1))?,
-        name_rdata: one(alloc, Blob::from_slice(alloc, name)?)?,
-        qr_sig: one(alloc, signature(wrong))?,
-        qlist: one(alloc, questions)?,
-        qrr: one(alloc, question)?,
-        rrlist: one(alloc, records)?,
-        rr: one(alloc, rr)?,
-        malformed_message_data: one(alloc, data)?,
-    })
+        items: no_values(alloc),
+        malformed: no_values(alloc),
+        ip_address: no_values(alloc),
+        classtype: no_values(alloc),
+        name_rdata: no_values(alloc),
+        qr_sig: no_values(alloc),
+        qlist: no_values(alloc),
+        qrr: no_values(alloc),
+        rrlist: no_values(alloc),
+        rr: no_values(alloc),
+        malformed_message_data: no_values(alloc),
+    }
+}
+
+// One entry for each table of a block, and an item and a malformed message that use them. The index into the table that is
+// wrong is 1.
+fn fill(alloc: Global, block: &mut Block, wrong: u8, name: &[u8]) -> Result<(), AllocError> {
+    add(&mut block.items, item(wrong))?;
+    add(&mut block.malformed, malformed(wrong))?;
+    add_bytes(alloc, &mut block.ip_address, b"\x7f")?;
+    add(&mut block.classtype, (1, 1))?;
+    add_bytes(alloc, &mut block.name_rdata, name)?;
+    add(&mut block.qr_sig, signature(wrong))?;
+    add_index(alloc, &mut block.qlist, index(wrong, 5))?;
+    add(&mut block.qrr, QUESTION)?;
+    add_index(alloc, &mut block.rrlist, index(wrong, 7))?;
+    add(&mut block.rr, RECORD)?;
+    add(&mut block.malformed_message_data, DATA)
 }
 
 // Why a block does not resolve, if it does not.
 fn fault_of(alloc: Global, wrong: u8, name: &[u8]) -> Result<Option<ResolveFault>, AllocError> {
-    let block = block(alloc, wrong, name)?;
+    let mut block = empty_block(alloc);
+    fill(alloc, &mut block, wrong, name)?;
     match resolve(alloc, &block) {
         Ok(_) => Ok(None),
         Err(fault) => Ok(Some(fault)),

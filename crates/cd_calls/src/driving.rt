@@ -72,26 +72,33 @@ impl Machine for Copier {
     ghost lawful = { λ m. copying_lawful };
 }
 
-// How a copy ended, as a word, and what was written. At most 1,000,000 bytes are wanted.
+// How a drive stopped, as a word.
+fn word_of(stop: &Stop<()>) -> &'static str {
+    match stop {
+        Stop::Done => "done",
+        Stop::Refused(_) => "refused",
+        Stop::ReadFault => "read fault",
+        Stop::TooLong => "too long",
+    }
+}
+
+// Copies a source to a sink, and says how that ended. At most 1,000,000 bytes are wanted.
 fn copied<S: Source>(
     alloc: Global,
     max_input: u64,
     src: &mut S,
-    fails: &[u64],
-) -> Result<(&'static str, Vec<u8>), AllocError> {
-    let mut out = MemSink::new(alloc, List::from_vec(Vec::from_slice(alloc, fails)?), 1);
-    let most = max_input.min(1_000_000);
-    let word = match drive(alloc, most, src, &mut out, new_copier(alloc)) {
-        Ok(driven) => match driven.stop {
-            Stop::Done => "done",
-            Stop::Refused(_) => "refused",
-            Stop::ReadFault => "read fault",
-            Stop::TooLong => "too long",
-        },
+    out: &mut MemSink,
+) -> &'static str {
+    match drive(alloc, max_input.min(1_000_000), src, out, new_copier(alloc)) {
+        Ok(driven) => word_of(&driven.stop),
         Err(SinkFault::Failed) => "write fault",
         Err(SinkFault::NoMemory) => "no memory",
-    };
-    Ok((word, Vec::from_slice(alloc, out.contents())?))
+    }
+}
+
+// A sink that fails at these calls, and keeps one byte of each piece then.
+fn sink_of(alloc: Global, fails: &[u64]) -> Result<MemSink, AllocError> {
+    Ok(MemSink::new(alloc, List::from_vec(Vec::from_slice(alloc, fails)?), 1))
 }
 
 // One byte a call.
@@ -100,35 +107,47 @@ fn by_bytes(alloc: Global, bytes: &[u8]) -> Result<CutSource, AllocError> {
     Ok(CutSource::new(Blob::from_vec(Vec::from_slice(alloc, bytes)?), sizes))
 }
 
+// Whether a copy of these bytes, one a call, ends so and writes this, where the sink fails at these calls.
+fn ends_so(
+    alloc: Global,
+    bytes: &[u8],
+    most: u64,
+    fails: &[u64],
+    word: &str,
+    written: &[u8],
+) -> Result<bool, AllocError> {
+    let mut out = sink_of(alloc, fails)?;
+    let mut src = by_bytes(alloc, bytes)?;
+    let ended = copied(alloc, most, &mut src, &mut out);
+    Ok(ended == word && out.contents() == written)
+}
+
 #[test]
 fn a_drive_ends_as_its_bytes_say(rt: HostRuntime) -> Result<(), AllocError> {
     let alloc = rt.alloc();
-    let rows: [(&[u8], u64, &[u64], &str, &[u8]); 7] = [
-        (b"abc", 3, &[], "done", b"abc"),
-        (b"", 0, &[], "done", b""),
-        (b"abc", 2, &[], "too long", b"ab"),
-        (b"ab\0c", 9, &[], "refused", b"ab\0"),
-        (b"ab\0", 2, &[], "too long", b"ab"),
-        (b"a\0bc", 2, &[], "refused", b"a\0"),
-        (b"abc", 9, &[1], "write fault", b"ab"),
-    ];
-    for (bytes, most, fails, word, written) in rows {
-        let mut src = by_bytes(alloc, bytes)?;
-        let (ended, text) = copied(alloc, most, &mut src, fails)?;
-        assert!(rt; ended == word);
-        assert!(rt; text.as_slice() == written);
-    }
+    assert!(rt; ends_so(alloc, b"abc", 3, &[], "done", b"abc")?);
+    assert!(rt; ends_so(alloc, b"", 0, &[], "done", b"")?);
+    assert!(rt; ends_so(alloc, b"abc", 2, &[], "too long", b"ab")?);
+    assert!(rt; ends_so(alloc, b"ab\0c", 9, &[], "refused", b"ab\0")?);
+    assert!(rt; ends_so(alloc, b"ab\0", 2, &[], "too long", b"ab")?);
+    assert!(rt; ends_so(alloc, b"a\0bc", 2, &[], "refused", b"a\0")?);
+    assert!(rt; ends_so(alloc, b"abc", 9, &[1], "write fault", b"ab")?);
     Ok(())
+}
+
+// A source of some bytes whose second call fails.
+fn failing_source(alloc: Global, bytes: &[u8]) -> Result<MemSource, AllocError> {
+    let bytes = Blob::from_vec(Vec::from_slice(alloc, bytes)?);
+    Ok(MemSource::new(bytes, List::from_vec(vec![in alloc; 1u64]?)))
 }
 
 #[test]
 fn a_failed_read_ends_a_drive(rt: HostRuntime) -> Result<(), AllocError> {
-    let alloc = rt.alloc();
-    let bytes = Blob::from_vec(Vec::from_slice(alloc, b"abc")?);
-    let mut src = MemSource::new(bytes, List::from_vec(vec![in alloc; 1u64]?));
-    let (ended, text) = copied(alloc, 9, &mut src, &[])?;
+    let mut src = failing_source(rt.alloc(), b"abc")?;
+    let mut out = sink_of(rt.alloc(), &[])?;
+    let ended = copied(rt.alloc(), 9, &mut src, &mut out);
     assert!(rt; ended == "read fault");
-    assert!(rt; text.as_slice() == b"abc".as_slice());
+    assert!(rt; out.contents() == b"abc".as_slice());
     Ok(())
 }
 
