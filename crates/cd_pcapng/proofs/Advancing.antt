@@ -1,6 +1,6 @@
 -- A reader as it goes on over the whole blocks that it holds.
 use Rattle.std.proofs.Common.{◌≡◌, ℕ, ◌+◌, ◌-◌, ◌≤◌, Option, Some, None, List, [], ◌∷◌, ◌++◌, length, take, drop, map, refl, ap, sym, ◌∙◌, subst, arith, length-append}
-use Rattle.std.proofs.lemmas.List.{drop-append-le, drop-drop, drop-take, drop_all, length-drop, length-take-le, map-append, take-append-drop, take-append-le, take_all}
+use Rattle.std.proofs.lemmas.List.{drop-append-le, drop-drop, drop-take, drop_all, length-drop, length-take-le, map-append, take-append-drop}
 use Rattle.std.proofs.Math.Seq.{take-append_seam}
 use Rattle.std.specs.Prelude.{option_map}
 use Rattle.cd_bytes.specs.declared.order.Order.{Order}
@@ -10,7 +10,7 @@ use Rattle.cd_packet.specs.declared.packet.Packet.{Packet}
 use Rattle.cd_pcapng.specs.Founds.{FoundSeen, section_in, FindsAll, IsStopped}
 use Rattle.cd_pcapng.specs.Fronts.{packet_in, ArePlaced}
 use Rattle.cd_pcapng.specs.Reading.{Kept, HasRead, StandsFor, AreOpen, AreRefused}
-use Rattle.cd_pcapng.specs.Sections.{Section, section_of}
+use Rattle.cd_pcapng.specs.Sections.{section_of}
 use Rattle.cd_pcapng.specs.declared.front.WholeBlocks.{WholeBlocks}
 use Rattle.cd_pcapng.specs.declared.packet_place.PacketPlace.{PacketPlace}
 use Rattle.cd_pcapng.proofs.Dropping.{kept_in}

@@ -6,13 +6,13 @@ use Rattle.std.proofs.lemmas.List.{length-take-le, take-append-drop, drop-append
 use Rattle.std.proofs.Math.Seq.{drop-append_seam}
 use Rattle.cd_bytes.specs.declared.order.Order.{Order}
 use Rattle.cd_packet.proofs.Growing.{has_magic-few}
-use Rattle.cd_packet.specs.Capture.{Capture, refused_capture, after}
+use Rattle.cd_packet.specs.Capture.{refused_capture, after}
 use Rattle.cd_packet.specs.declared.capture.CaptureWhy.{CaptureWhy}
 use Rattle.cd_packet.specs.declared.capture.CaptureWhy.TheVariants.{Magic}
 use Rattle.cd_pcapng.specs.Blocks.{cut_front, refused_front, is_section_header, front_of}
 use Rattle.cd_pcapng.specs.Founds.{FoundSeen, section_in, added, place_in, BeginsBlock, BeginsWith}
 use Rattle.cd_pcapng.specs.Fronts.{packet_in, front_with, HasBlock, FrontIs}
-use Rattle.cd_pcapng.specs.Pcapng.{blocks, pcapng}
+use Rattle.cd_pcapng.specs.Pcapng.{blocks}
 use Rattle.cd_pcapng.specs.Reading.{AreOpen, AreRefused, reading_on}
 use Rattle.cd_pcapng.specs.Sections.{Section, section_of, no_section}
 use Rattle.cd_pcapng.specs.declared.front.Content.{Content}

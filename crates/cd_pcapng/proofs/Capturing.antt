@@ -1,6 +1,6 @@
 -- How the list of blocks goes on.
 use Rattle.std.proofs.Common.{◌≡◌, ℕ, true, false, zero, suc, ◌+◌, ◌-◌, ◌<◌, ◌≤◌, List, [], ◌∷◌, length, drop, refl, ap, ◌∙◌, arith}
-use Rattle.cd_packet.specs.Capture.{Capture, ends, refused_capture, after}
+use Rattle.cd_packet.specs.Capture.{ends, refused_capture, after}
 use Rattle.cd_packet.specs.Magic.{has_magic}
 use Rattle.cd_packet.specs.declared.capture.CaptureWhy.{CaptureWhy}
 use Rattle.cd_packet.specs.declared.capture.CaptureWhy.TheVariants.{Magic}

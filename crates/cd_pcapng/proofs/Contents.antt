@@ -1,18 +1,17 @@
 -- What whole blocks hold, as it stands among other bytes.
-use Rattle.std.proofs.Common.{◌≡◌, ℕ, ◌+◌, ◌-◌, ◌≤◌, Bool, true, false, not, nat_eq, Option, Some, None, List, [], ◌∷◌, ◌++◌, length, take, drop, refl, ap, sym, ◌∙◌, arith, subst}
+use Rattle.std.proofs.Common.{◌≡◌, ℕ, ◌+◌, ◌-◌, ◌≤◌, Bool, true, Some, List, ◌++◌, length, take, drop, refl, ap, sym, ◌∙◌, arith, subst}
 use Rattle.std.proofs.lemmas.Bool.{eq-eqb}
 use Rattle.std.proofs.lemmas.List.{take-append-drop, length-take-le}
 use Rattle.cd_bytes.specs.Numbers.{number32_at}
 use Rattle.cd_bytes.specs.declared.order.Order.{Order}
 use Rattle.cd_packet.specs.declared.capture.CaptureWhy.{CaptureWhy}
-use Rattle.cd_packet.specs.declared.packet.Packet.{Packet}
 use Rattle.cd_pcapng.specs.Blocks.{refused_front, packet_block, is_section_header, head_length, order_of, total_length, kind_of, least_length, is_block_length, content, whole_front, front_of}
 use Rattle.cd_pcapng.specs.Fronts.{packet_in, front_with, IsPlaced, HasBlock}
 use Rattle.cd_pcapng.specs.Sections.{Section}
 use Rattle.cd_pcapng.specs.declared.front.Content.{Content}
 use Rattle.cd_pcapng.specs.declared.front.Content.TheVariants as content_of
 use Rattle.cd_pcapng.specs.declared.kind.Kind.{Kind}
-use Rattle.cd_pcapng.proofs.Framing.{HasHead, block_head, block-stays, whole-stays, header-append, head_many, length-least}
+use Rattle.cd_pcapng.proofs.Framing.{HasHead, block-stays, whole-stays, header-append, head_many, length-least}
 use Rattle.cd_pcapng.proofs.Passing.{packet_in-append}
 
 -- the two lengths of a block agree
@@ -33,7 +32,7 @@ pub whole_refused : (s : Section) (at : ℕ) (bytes : List ℕ) (order : Order) 
 whole_refused s at bytes order size why long told good is all e = (
   omega (arith, long, head_many bytes),
   λ more.
-  whole-stays s at bytes more order long told good (omega (arith, is, all)) ∙ ap (λ n. whole_front order s at (take n bytes)) (sym is) ∙ e,
+      whole-stays s at bytes more order long told good (omega (arith, is, all)) ∙ ap (λ n. whole_front order s at (take n bytes)) (sym is) ∙ e,
 )
 
 -- what stands in a block stands among the bytes
@@ -70,7 +69,7 @@ whole_found s at bytes order size found h e section =
       section = λ header. (
         order,
         section
-        (sym (header-append (take size bytes) (drop size bytes) (omega (arith, long, h.least))) ∙ ap (λ t. is_section_header t) (take-append-drop size bytes) ∙ header),
+            (sym (header-append (take size bytes) (drop size bytes) (omega (arith, long, h.least))) ∙ ap (λ t. is_section_header t) (take-append-drop size bytes) ∙ header),
       );
       reads = λ more. block-stays s at order size bytes more h ∙ k.0 ∙ front_same s at bytes size found h.within k.1;
     }

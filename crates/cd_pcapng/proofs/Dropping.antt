@@ -1,14 +1,11 @@
 -- What a reader keeps stays the same as it lets go of what is no longer wanted.
-use Rattle.std.proofs.Common.{◌≡◌, ℕ, ◌+◌, ◌-◌, ◌≤◌, Option, List, drop, map, refl, ap, ◌∙◌, sym, arith}
+use Rattle.std.proofs.Common.{◌≡◌, ℕ, ◌+◌, ◌-◌, ◌≤◌, Option, List, drop, map, ap, ◌∙◌, arith}
 use Rattle.std.proofs.lemmas.List.{drop-drop}
-use Rattle.std.specs.Prelude.{option_map}
-use Rattle.cd_bytes.specs.declared.order.Order.{Order}
 use Rattle.cd_packet.specs.declared.capture.BadCapture.{BadCapture}
 use Rattle.cd_packet.specs.declared.packet.Packet.{Packet}
 use Rattle.cd_pcapng.specs.Founds.{FoundSeen, section_in}
 use Rattle.cd_pcapng.specs.Fronts.{packet_in, ArePlaced}
 use Rattle.cd_pcapng.specs.Reading.{Kept}
-use Rattle.cd_pcapng.specs.Sections.{Section, section_of}
 use Rattle.cd_pcapng.proofs.Passing.{packets_in-drop}
 
 -- what a reader of these parts keeps

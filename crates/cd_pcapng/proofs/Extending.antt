@@ -1,13 +1,10 @@
 -- What a capture becomes as its bytes go on.
-use Rattle.std.proofs.Common.{◌≡◌, ℕ, zero, suc, ◌+◌, ◌-◌, ◌<◌, ◌≤◌, ◌⊎◌, true, false, Bool, Option, Some, None, List, [], ◌∷◌, ◌++◌, length, take, refl, ap, sym, ◌∙◌, arith, subst, inl, inr}
+use Rattle.std.proofs.Common.{◌≡◌, ℕ, zero, suc, ◌+◌, ◌-◌, ◌<◌, ◌≤◌, ◌⊎◌, Option, Some, None, List, [], ◌∷◌, ◌++◌, length, refl, ap, sym, ◌∙◌, arith, inl, inr}
 use Rattle.std.proofs.lemmas.Bool.{cases_lt, cases_Bool}
 use Rattle.cd_bytes.specs.declared.order.Order.{Order}
 use Rattle.cd_packet.proofs.Growing.{has_magic-few, grows_at, grows_whole, grows_cut, grows_refused, grows_after}
 use Rattle.cd_packet.specs.Capture.{Capture, Grows}
-use Rattle.cd_packet.specs.declared.capture.BadCapture.{BadCapture}
 use Rattle.cd_packet.specs.declared.capture.CaptureWhy.TheVariants.{Magic}
-use Rattle.cd_packet.specs.declared.capture.EndState.{EndState}
-use Rattle.cd_packet.specs.declared.capture.EndState.TheVariants.{Bad}
 use Rattle.cd_pcapng.specs.Blocks.{Front, cut_front, refused_front, other_block, packet_block, is_section_header, head_length, order_of, kind_of, total_length, is_block_length, front_of}
 use Rattle.cd_pcapng.specs.Laws.{CapturesGrow}
 use Rattle.cd_pcapng.specs.Pcapng.{from_front, blocks, pcapng}

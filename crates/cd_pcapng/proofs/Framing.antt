@@ -1,12 +1,12 @@
 -- How the front of some bytes is found, and that it stays as they go on.
-use Rattle.std.proofs.Common.{◌≡◌, ℕ, ◌+◌, ◌-◌, ◌%◌, ◌<◌, ◌≤◌, Bool, true, false, cond, not, ◌&&◌, nat_lt, nat_eq, Option, Some, None, List, [], ◌∷◌, ◌++◌, length, take, drop, refl, ap, sym, ◌∙◌, arith, inl, inr, length-append}
+use Rattle.std.proofs.Common.{◌≡◌, ℕ, ◌+◌, ◌<◌, ◌≤◌, Bool, true, false, cond, not, ◌&&◌, nat_lt, Some, None, List, ◌++◌, length, take, drop, refl, ap, sym, ◌∙◌, arith, inl, inr, length-append}
 use Rattle.std.proofs.lemmas.Bool.{le-ltb, lt-ltb, cases_Bool, ltb-false}
 use Rattle.std.proofs.lemmas.List.{take-append-le, take-append-drop, length-take-le, take_all}
 use Rattle.cd_bytes.proofs.Offsets.{le32-append, be32-append, number32_at-append}
 use Rattle.cd_bytes.specs.declared.order.Order.{Order}
 use Rattle.cd_packet.proofs.Growing.{has_magic-append}
 use Rattle.cd_packet.specs.declared.capture.CaptureWhy.TheVariants as why
-use Rattle.cd_pcapng.specs.Blocks.{Front, cut_front, refused_front, is_section_header, head_length, told_order, order_of, block_type, total_length, numbered_kind, kind_of, least_length, is_block_length, whole_front, ordered_front, front_of}
+use Rattle.cd_pcapng.specs.Blocks.{cut_front, refused_front, is_section_header, head_length, told_order, order_of, total_length, kind_of, least_length, is_block_length, whole_front, ordered_front, front_of}
 use Rattle.cd_pcapng.specs.Sections.{Section}
 use Rattle.cd_pcapng.specs.declared.kind.Kind.{Kind}
 use Rattle.cd_pcapng.specs.declared.kind.Kind.TheVariants as kind

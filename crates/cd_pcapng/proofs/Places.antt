@@ -1,8 +1,8 @@
 -- Where the packets of a capture stand, and its refused place.
-use Rattle.std.proofs.Common.{◌≡◌, ℕ, true, zero, suc, ◌+◌, ◌-◌, ◌<◌, ◌≤◌, List, [], ◌∷◌, ◌++◌, length, take, drop, refl, ap, sym, ◌∙◌, arith, subst, inl, inr}
+use Rattle.std.proofs.Common.{◌≡◌, ℕ, true, zero, suc, ◌+◌, ◌-◌, ◌<◌, ◌≤◌, List, [], ◌∷◌, ◌++◌, length, take, drop, refl, ap, sym, ◌∙◌, arith, inl, inr}
 use Rattle.std.proofs.lemmas.Bool.{cases_Bool, cases_lt}
 use Rattle.std.proofs.lemmas.List.{take-append-drop, length-take-le, take-append-le}
-use Rattle.cd_packet.specs.Capture.{Capture, after}
+use Rattle.cd_packet.specs.Capture.{Capture}
 use Rattle.cd_packet.specs.declared.capture.BadCapture.{BadCapture}
 use Rattle.cd_packet.specs.declared.capture.CaptureWhy.TheVariants.{Magic}
 use Rattle.cd_packet.specs.declared.capture.EndState.TheVariants.{Cut, Bad}

@@ -10,7 +10,7 @@ use Rattle.cd_pcapng.specs.Laws.{PacketsAreWithin, least_block_length}
 use Rattle.cd_pcapng.specs.Pcapng.{from_front, blocks, pcapng}
 use Rattle.cd_pcapng.specs.Sections.{Section, no_section}
 use Rattle.cd_pcapng.proofs.Capturing.{blocks-cut, blocks-refused, pcapng-header, pcapng-magic}
-use Rattle.cd_pcapng.proofs.Wholes.{HasLength, IsWhole, front_cases}
+use Rattle.cd_pcapng.proofs.Wholes.{HasLength, front_cases}
 
 -- the packets of a capture take at most so many bytes
 HaveSize : ℕ → Capture → Type 0

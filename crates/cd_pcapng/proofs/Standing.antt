@@ -1,11 +1,11 @@
 -- What a reader that stands for a history knows of the bytes fed, and how it goes on.
-use Rattle.std.proofs.Common.{◌≡◌, ℕ, ◌+◌, ◌-◌, ◌≤◌, Bool, true, false, cond, nat_lt, Option, Some, None, List, [], ◌∷◌, ◌++◌, length, take, drop, refl, ap, sym, ◌∙◌, subst, arith, append_assoc, length-append}
+use Rattle.std.proofs.Common.{◌≡◌, ℕ, ◌+◌, ◌≤◌, Bool, true, false, cond, nat_lt, Option, Some, None, List, [], ◌∷◌, ◌++◌, length, take, drop, refl, ap, sym, ◌∙◌, subst, arith, append_assoc, length-append}
 use Rattle.std.proofs.lemmas.Bool.{le-ltb, ltb-false}
 use Rattle.std.proofs.lemmas.List.{append-nil, take-append-drop, length-take-le}
 use Rattle.cd_packet.specs.declared.packet.Packet.{Packet}
 use Rattle.cd_packet.specs.declared.capture.BadCapture.{BadCapture}
 use Rattle.cd_packet.specs.declared.capture.EndState.{EndState}
-use Rattle.cd_packet.specs.declared.capture.EndState.TheVariants.{Whole, Cut, Bad}
+use Rattle.cd_packet.specs.declared.capture.EndState.TheVariants.{Bad}
 use Rattle.cd_packet.proofs.Growing.{after-after}
 use Rattle.cd_packet.specs.Capture.{Capture, ends, after}
 use Rattle.cd_pcapng.specs.Laws.{GivenAreFirst}

@@ -94,6 +94,7 @@ front_cases s at bytes =
     whole_length order s at block many =
         chosen at (length block) (not (nat_eq (number32_at order (length block - 4) block) (length block))) (refused_front why.TrailerMismatch)
         (content order s at (kind_of order block) block) tt (content_length order s at (kind_of order block) block many)
+
     whole_front_is : (s : Section) (at : ℕ) (bytes : List ℕ) (order : Order) → head_length bytes ≤ length bytes → order_of s bytes ≡ Some order →
         is_block_length (kind_of order bytes) (total_length order bytes) ≡ true → total_length order bytes ≤ length bytes → IsWhole s at bytes (front_of s at bytes)
     whole_front_is s at bytes order long told good all =

@@ -1,7 +1,7 @@
--- What the block at the front of some bytes holds, or why it is refused (the pcapng draft, 3.1 and 4). The first rule that
--- applies decides, as soon as its bytes are there.
-use Rattle.std.specs.Prelude.{ℕ, ◌+◌, ◌-◌, ◌%◌, Bool, not, ◌&&◌, ◌||◌, nat_lt, nat_eq, List, [], ◌∷◌, ◌++◌, length, take}
-use Rattle.std.specs.Prelude.{slice_get, if◌then◌else◌, Option, Some, None}
+-- What the block at the front of some bytes holds, or why it is refused (the pcapng draft, 3.1 and 4). The first rule
+-- that applies decides, as soon as its bytes are there.
+use Rattle.std.specs.Prelude.{ℕ, ◌+◌, ◌-◌, ◌%◌, Bool, not, ◌&&◌, ◌||◌, nat_lt, nat_eq, List, [], ◌∷◌, ◌++◌, length}
+use Rattle.std.specs.Prelude.{take, slice_get, if◌then◌else◌, Option, Some, None}
 use Rattle.cd_bytes.specs.Numbers.{be32, le32, number16_at, number32_at}
 use Rattle.cd_bytes.specs.declared.order.Order.{Order}
 use Rattle.cd_bytes.specs.declared.order.Order.TheVariants.{Big, Little}
@@ -11,7 +11,8 @@ use Rattle.cd_packet.specs.declared.capture.CaptureWhy.TheVariants as why
 use Rattle.cd_packet.specs.declared.packet.Packet.{Packet}
 use Rattle.cd_pcapng.specs.Options.{padded}
 use Rattle.cd_pcapng.specs.Times.{is_resolution}
-use Rattle.cd_pcapng.specs.Sections.{Section, section_of, interface_in, captured_in, enhanced_packet, simple_captured, simple_packet}
+use Rattle.cd_pcapng.specs.Sections.{Section, section_of, interface_in, captured_in, enhanced_packet, simple_captured}
+use Rattle.cd_pcapng.specs.Sections.{simple_packet}
 use Rattle.cd_pcapng.specs.declared.interface.Interface.{Interface}
 use Rattle.cd_pcapng.specs.declared.kind.Kind.{Kind}
 use Rattle.cd_pcapng.specs.declared.kind.Kind.TheVariants as kind

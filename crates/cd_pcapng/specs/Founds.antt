@@ -1,8 +1,8 @@
 -- What was found in the whole blocks of a capture, and how it grows.
-use Rattle.std.specs.Prelude.{◌≡◌, ℕ, ◌+◌, ◌≤◌, List, [], ◌∷◌, ◌++◌, length, take, drop, map, Option, Some, None, option_map}
+use Rattle.std.specs.Prelude.{◌≡◌, ℕ, ◌+◌, ◌≤◌, List, [], ◌∷◌, ◌++◌, length, take, drop, map, Option, Some, None}
+use Rattle.std.specs.Prelude.{option_map}
 use Rattle.cd_bytes.specs.declared.order.Order.{Order}
 use Rattle.cd_packet.specs.Capture.{after}
-use Rattle.cd_packet.specs.declared.capture.BadCapture.{BadCapture}
 use Rattle.cd_packet.specs.declared.capture.CaptureWhy.{CaptureWhy}
 use Rattle.cd_pcapng.specs.Fronts.{packet_in, ArePlaced, IsPlaced}
 use Rattle.cd_pcapng.specs.Reading.{reading_on, AreOpen, AreRefused}
@@ -15,7 +15,8 @@ use Rattle.cd_pcapng.specs.declared.front.WholeBlocks.{WholeBlocks}
 use Rattle.cd_pcapng.specs.declared.interface.Interface.{Interface}
 use Rattle.cd_pcapng.specs.declared.packet_place.PacketPlace.{PacketPlace}
 
--- what was found: the packets that are not given, and the interfaces, of which those from the first on are of the section
+-- what was found: the packets that are not given, and the interfaces, of which those from the first on are of the
+-- section
 pub record FoundSeen : Type 0 where
   pub ready : List PacketPlace
   pub interfaces : List Interface

@@ -3,7 +3,8 @@ use Rattle.std.specs.Prelude.{◌≡◌, ℕ, true, ◌+◌, ◌-◌, ◌≤◌,
 use Rattle.cd_bytes.specs.declared.order.Order.{Order}
 use Rattle.cd_packet.specs.declared.capture.CaptureWhy.{CaptureWhy}
 use Rattle.cd_packet.specs.declared.packet.Packet.{Packet}
-use Rattle.cd_pcapng.specs.Blocks.{Front as front, cut_front, refused_front, other_block, packet_block, is_section_header, front_of}
+use Rattle.cd_pcapng.specs.Blocks.{Front as front, cut_front, refused_front, other_block, packet_block, front_of}
+use Rattle.cd_pcapng.specs.Blocks.{is_section_header}
 use Rattle.cd_pcapng.specs.Sections.{Section, section_of}
 use Rattle.cd_pcapng.specs.declared.front.Content.{Content}
 use Rattle.cd_pcapng.specs.declared.front.Content.TheVariants as content_of
@@ -37,13 +38,15 @@ IsPlaced from content_of.Other to = from ≤ to
 -- a whole block of this length and content, in this section, at the front of these bytes at this offset
 abbrev pub front_with : Section → ℕ → List ℕ → ℕ → Content → front
 front_with s at bytes size (content_of.Section order) = other_block (section_of order []) size
-front_with s at bytes size (content_of.Interface i) = other_block (record s { interfaces = s.interfaces ++ i ∷ [] }) size
+front_with s at bytes size (content_of.Interface i) =
+    other_block (record s { interfaces = s.interfaces ++ i ∷ [] }) size
 front_with s at bytes size (content_of.Packet p) = packet_block (packet_in at bytes p) size
 front_with s at bytes size content_of.Other = other_block s size
 
 -- a front that the code found in a whole block, in this section and at this offset
 abbrev pub Finds : Section → ℕ → List ℕ → front → Result Content CaptureWhy → Type 0
-Finds s at block is (Ok found) = (is ≡ front_with s at block (length block) found) × IsPlaced at found (at + length block)
+Finds s at block is (Ok found) =
+    (is ≡ front_with s at block (length block) found) × IsPlaced at found (at + length block)
 Finds s at block is (Err why) = is ≡ refused_front why
 
 -- A whole block of this length and content stands at the front of these bytes, whatever comes after it.

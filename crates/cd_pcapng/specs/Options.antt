@@ -1,6 +1,6 @@
 -- The options of a block, and what those of an interface say of its clock (the pcapng draft, 3.5 and 4.2).
-use Rattle.std.specs.Prelude.{ℕ, zero, suc, ◌+◌, ◌*◌, ◌/◌, ℤ, pos, Bool, ◌&&◌, ◌||◌, nat_lt, nat_eq, List, [], ◌∷◌, length}
-use Rattle.std.specs.Prelude.{take, drop, slice_index, if◌then◌else◌}
+use Rattle.std.specs.Prelude.{ℕ, zero, suc, ◌+◌, ◌*◌, ◌/◌, ℤ, pos, Bool, ◌&&◌, ◌||◌, nat_lt, nat_eq, List, [], ◌∷◌}
+use Rattle.std.specs.Prelude.{length, take, drop, slice_index, if◌then◌else◌}
 use Rattle.std.specs.Int.{w64, cast_signed}
 use Rattle.cd_bytes.specs.Numbers.{number_of, number16_at}
 use Rattle.cd_bytes.specs.declared.order.Order.{Order}

@@ -6,8 +6,8 @@ use Rattle.cd_packet.specs.Capture.{Capture, ends, refused_capture, after}
 use Rattle.cd_pcapng.specs.Blocks.{Front, cut_front, refused_front, other_block, packet_block, is_section_header, front_of}
 use Rattle.cd_pcapng.specs.Sections.{Section, no_section}
 
--- what a capture holds from a front on, in this section and at this offset, where what comes after the front's first byte
--- is read so: in the section after the block, of which so many bytes are left
+-- what a capture holds from a front on, in this section and at this offset, where what comes after the front's first
+-- byte is read so: in the section after the block, of which so many bytes are left
 abbrev pub from_front : Front → Section → ℕ → (Section → ℕ → Capture) → Capture
 from_front cut_front s at rest = ends Cut
 from_front (refused_front why) s at rest = refused_capture at why

@@ -1,5 +1,5 @@
 -- What a reader of a pcapng capture keeps, and for which histories it stands.
-use Rattle.std.specs.Prelude.{◌≡◌, ℕ, ◌+◌, ◌≤◌, nat_lt, List, [], ◌∷◌, ◌++◌, length, Option, Some, None, if◌then◌else◌}
+use Rattle.std.specs.Prelude.{◌≡◌, ℕ, ◌≤◌, nat_lt, List, [], ◌∷◌, ◌++◌, length, Option, Some, None, if◌then◌else◌}
 use Rattle.cd_packet.specs.Capture.{Capture, ends, after}
 use Rattle.cd_packet.specs.declared.packet.Packet.{Packet}
 use Rattle.cd_packet.specs.declared.capture.BadCapture.{BadCapture}
@@ -44,14 +44,14 @@ pub record AreRefused (section : Option Section) (at : ℕ) (bad : BadCapture) (
   pub told : 4 ≤ length bytes
   pub reads : (more : List ℕ) → reading_on section at (bytes ++ more) ≡ ends (Bad bad)
 
--- what stands after the last whole block: bytes that are all held and open, or a refused place, from which on nothing is
--- held
+-- what stands after the last whole block: bytes that are all held and open, or a refused place, from which on nothing
+-- is held
 abbrev pub StandsAfter : Option BadCapture → Option Section → ℕ → List ℕ → List ℕ → Type 0
 StandsAfter None section at held let_go = AreOpen section at held × (let_go ≡ [])
 StandsAfter (Some bad) section at held let_go = (held ≡ []) × AreRefused section at bad let_go
 
--- Of the bytes fed, the first are whole blocks, the next are held, and the last are let go. However the bytes go on after
--- the blocks, the capture is the packets given and those that are ready, and then what is read from here on.
+-- Of the bytes fed, the first are whole blocks, the next are held, and the last are let go. However the bytes go on
+-- after the blocks, the capture is the packets given and those that are ready, and then what is read from here on.
 pub record HasRead (r : Kept) (fed let_go : List ℕ) (given : List Packet) : Type 0 where
   pub front : List ℕ
   pub split : fed ≡ front ++ (r.held ++ let_go)

@@ -1,6 +1,6 @@
 -- When a packet was captured, by the clock of its interface (the pcapng draft, 4.2 and 4.3).
-use Rattle.std.specs.Prelude.{◌≡◌, ℕ, ◌+◌, ◌-◌, ◌*◌, ◌/◌, ◌^◌, ◌<◌, ℤ, pos, negsuc, Bool, true, false, nat_lt, if◌then◌else◌}
-use Rattle.std.proofs.Common.{arith}
+use Rattle.std.specs.Prelude.{◌≡◌, ℕ, ◌+◌, ◌-◌, ◌*◌, ◌/◌, ◌^◌, ◌<◌, ℤ, pos, negsuc, Bool, true, false, nat_lt}
+use Rattle.std.specs.Prelude.{if◌then◌else◌}
 use Rattle.cd_packet.specs.Time.{end_of_time, when_at, when_at-timely}
 use Rattle.cd_packet.specs.declared.packet.When.{When}
 use Rattle.cd_packet.specs.declared.packet.When.TheVariants.{At, Outside, Missing}

@@ -159,7 +159,11 @@ fn interface_in(order: Order, block: &[u8]) -> Interface
 }
 
 // An interface, of which a section has at most 65,536.
-fn interface_content(order: Order, interfaces: &[Interface], block: &[u8]) -> Result<Content, CaptureWhy>
+fn interface_content(
+    order: Order,
+    interfaces: &[Interface],
+    block: &[u8],
+) -> Result<Content, CaptureWhy>
     requires { 20 ≤ length block.now }
     ensures { (before : Order) (at : ℕ) → Finds (section_of before interfaces.now) at block.now
         (interface_front order (section_of before interfaces.now) block.now) result }
@@ -179,7 +183,8 @@ fn ticks_in(order: Order, block: &[u8]) -> u64
     requires { 32 ≤ length block.now }
     ensures { result ≡ ticks_in order block.now }
 {
-    u64::from(number32_at(order, block, 12)) * 0x1_0000_0000 + u64::from(number32_at(order, block, 16))
+    u64::from(number32_at(order, block, 12)) * 0x1_0000_0000
+        + u64::from(number32_at(order, block, 16))
 }
 
 // The captured length of an enhanced packet.
@@ -209,7 +214,12 @@ fn enhanced_place(order: Order, interface: &Interface, at: u64, block: &[u8]) ->
 }
 
 // An enhanced packet.
-fn enhanced_content(order: Order, interfaces: &[Interface], at: u64, block: &[u8]) -> Result<Content, CaptureWhy>
+fn enhanced_content(
+    order: Order,
+    interfaces: &[Interface],
+    at: u64,
+    block: &[u8],
+) -> Result<Content, CaptureWhy>
     requires long { 32 ≤ length block.now }
     requires few { at + length block.now ≤ 2 ^ 48 }
     ensures { (s : Section) → Finds s at block.now
@@ -227,10 +237,16 @@ fn enhanced_content(order: Order, interfaces: &[Interface], at: u64, block: &[u8
 }
 
 // A simple packet.
-fn simple_content(order: Order, interfaces: &[Interface], at: u64, block: &[u8]) -> Result<Content, CaptureWhy>
+fn simple_content(
+    order: Order,
+    interfaces: &[Interface],
+    at: u64,
+    block: &[u8],
+) -> Result<Content, CaptureWhy>
     requires long { 16 ≤ length block.now }
     requires few { at + length block.now ≤ 2 ^ 48 }
-    ensures { (s : Section) → Finds s at block.now (simple_front order (slice_get interfaces.now 0) at block.now) result }
+    ensures { (s : Section) → Finds s at block.now
+        (simple_front order (slice_get interfaces.now 0) at block.now) result }
 {
     let interface = match interfaces.first() {
         None => return Err(CaptureWhy::Interface),
@@ -275,7 +291,12 @@ fn content_of(
 }
 
 // What a whole block holds.
-fn whole_content(order: Order, interfaces: &[Interface], at: u64, block: &[u8]) -> Result<Content, CaptureWhy>
+fn whole_content(
+    order: Order,
+    interfaces: &[Interface],
+    at: u64,
+    block: &[u8],
+) -> Result<Content, CaptureWhy>
     requires long { least_length (kind_of order block.now) ≤ length block.now }
     requires few { at + length block.now ≤ 2 ^ 48 }
     ensures found { (before : Order) → Finds (section_of before interfaces.now) at block.now
@@ -288,8 +309,8 @@ fn whole_content(order: Order, interfaces: &[Interface], at: u64, block: &[u8]) 
     content_of(order, interfaces, at, kind_of(order, block), block)
 }
 
-/// What stands at the front of these bytes, which stand at this offset in a section of this order with these interfaces.
-/// The first rule that applies decides, as soon as its bytes are there.
+/// What stands at the front of these bytes, which stand at this offset in a section of this order with these
+/// interfaces. The first rule that applies decides, as soon as its bytes are there.
 pub fn front_of(order: Order, interfaces: &[Interface], at: u64, bytes: &[u8]) -> Front
     requires { at + length bytes.now ≤ 2 ^ 48 }
     ensures { FrontIs (section_of order interfaces.now) at bytes.now result }

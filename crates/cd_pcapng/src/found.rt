@@ -193,8 +193,14 @@ impl Found {
         let mut size = 0;
         'reading: loop {
             match self.front(at + size as u64, &bytes[size..]) {
-                Front::Cut => return Ok(WholeBlocks { size, refused: None }),
-                Front::Refused(why) => return Ok(WholeBlocks { size, refused: Some(why) }),
+                Front::Cut => return Ok(WholeBlocks {
+                    size,
+                    refused: None,
+                }),
+                Front::Refused(why) => return Ok(WholeBlocks {
+                    size,
+                    refused: Some(why),
+                }),
                 Front::Block(more, content) => {
                     self.add(content)?;
                     size += more;

@@ -42,7 +42,8 @@ pub struct ClockOptions {
 // The option at the front of these bytes, unless the options end there.
 fn option_at<'a>(order: Order, bytes: &'a [u8]) -> Option<BlockOption<'a>>
     ensures { MatchOption result (ends_options order bytes.now ≡ true) (λ o.
-        (ends_options order bytes.now ≡ false) × (record { code = o.code; value = o.value.now } ≡ option_at order bytes.now)
+        (ends_options order bytes.now ≡ false)
+        × (record { code = o.code; value = o.value.now } ≡ option_at order bytes.now)
         × (length o.value.now ≤ 65535) × (length o.value.now ≡ option_length order bytes.now)
         × (4 ≤ length bytes.now)) }
 {

@@ -1,5 +1,5 @@
 /// The kinds of blocks that are read (the pcapng draft, 4).
-#[derive(Clone, Copy, Debug, PartialEq, Eq)]
+#[derive(Clone, Copy)]
 pub enum Kind {
     /// A section header block.
     SectionHeader,

@@ -4,8 +4,8 @@
 //! - A *section header* begins a *section*: it tells the order of the numbers, and no *interface* is declared after it.
 //! - An *interface* block declares one, with the link type of its packets and the resolution and offset of its clock.
 //! - An *enhanced packet* names its interface, and a *simple packet* is of the first one and tells no time.
-//! - A `PcapngReader` is *fed* the bytes of a capture, cut into any chunks, and gives the packets that came whole. As bytes
-//!   are fed, each block is read once, as soon as it is whole.
+//! - A `PcapngReader` is *fed* the bytes of a capture, cut into any chunks, and gives the packets that came whole. As
+//!   bytes are fed, each block is read once, as soon as it is whole.
 //! - A *refused place* is a block that no capture can have. Nothing is read after it.
 //!
 //! An example: a reader is fed a section header of 28 bytes, an interface block of 20, and the first 12 bytes of an

@@ -1,7 +1,7 @@
 //! A reader of a pcapng capture that comes in chunks.
 
-ghost use Rattle.std.specs.Prelude.{◌≡◌, ℕ, ◌+◌, ◌<◌, ◌≤◌, ◌^◌, [], ◌++◌, ◌-◌, List, length, take, Option, Some, None, is_some};
-ghost use Rattle.std.specs.Prelude.{OnOk, OnErr, IfOk};
+ghost use Rattle.std.specs.Prelude.{◌≡◌, ℕ, ◌+◌, ◌<◌, ◌≤◌, ◌^◌, [], ◌++◌, ◌-◌, List, length, take, Some, None};
+ghost use Rattle.std.specs.Prelude.{Option, is_some, OnOk, OnErr, IfOk};
 ghost use Rattle.cd_pcapng.specs.Fronts.{packet_in, ArePlaced};
 ghost use Rattle.cd_pcapng.specs.Reading.{open_end};
 ghost use Rattle.cd_pcapng.specs.Sections.{Section};
@@ -24,7 +24,8 @@ const MAGIC_SIZE: usize = 4;
 pub struct PcapngReader {
     alloc: Global,
     fed_count: u64,
-    // Bytes that were fed: those of the packets that are not given, and from `start` on those after the last whole block.
+    // Bytes that were fed: those of the packets that are not given, and from `start` on those after the last whole
+    // block.
     bytes: Vec<u8>,
     start: usize,
     // The offset in the capture of the first of these bytes.
@@ -62,7 +63,12 @@ impl Model for PcapngReader {
 }
 
 // The packet at a place, among these bytes at this offset.
-fn packet_in(alloc: Global, base: u64, bytes: &[u8], place: PacketPlace) -> Result<Packet, AllocError>
+fn packet_in(
+    alloc: Global,
+    base: u64,
+    bytes: &[u8],
+    place: PacketPlace,
+) -> Result<Packet, AllocError>
     requires from { base ≤ place.captured_at }
     requires to { place.captured_at + place.captured ≤ base + length bytes.now }
     requires few { base + length bytes.now ≤ 2 ^ 48 }
@@ -137,12 +143,12 @@ impl PcapngReader {
         ensures count { self.new.fed_count ≡ self.old.fed_count }
     {
         let at = self.base + self.start as u64;
-        let blocks = self.found.read(at, &self.bytes[self.start..])?;
-        self.start += blocks.size;
-        if let Some(why) = blocks.refused {
+        let whole = self.found.read(at, &self.bytes[self.start..])?;
+        self.start += whole.size;
+        if let Some(why) = whole.refused {
             self.bytes.truncate(self.start);
             self.refused = Some(BadCapture {
-                at: at + blocks.size as u64,
+                at: at + whole.size as u64,
                 why,
             });
         }

@@ -1,4 +1,4 @@
-use Rattle.std.proofs.Common.{◌≡◌, ◌+◌, drop, arith}
+use Rattle.std.proofs.Common.{◌≡◌, ◌+◌, drop}
 use Rattle.std.proofs.lemmas.List.{take_rest}
 use Rattle.cd_pcapng.specs.Options.{padded, option_length}
 use Rattle.cd_pcapng.proofs.OptionsRead.{resolution_none, offset_none, resolution_more, offset_more, rest_after}

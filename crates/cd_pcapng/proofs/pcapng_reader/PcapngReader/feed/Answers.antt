@@ -1,5 +1,5 @@
-use Rattle.std.proofs.Common.{◌≡◌, ◌∙◌, ◌++◌, None, ap, sym}
-use Rattle.cd_pcapng.specs.Reading.{Kept, StandsFor}
+use Rattle.std.proofs.Common.{◌∙◌, ◌++◌}
+use Rattle.cd_pcapng.specs.Reading.{StandsFor}
 use Rattle.cd_pcapng.specs.contracts.pcapng_reader.PcapngReader.{the_view}
 use Rattle.cd_pcapng.proofs.Advancing.{start_known}
 use Rattle.cd_pcapng.proofs.Standing.{refusal_known, refused_more}

@@ -1,4 +1,4 @@
-use Rattle.std.proofs.Common.{◌≡◌, ◌+◌, ◌≤◌, ◌∙◌, [], ◌∷◌, ◌++◌, List, drop, map, ap, sym, arith}
+use Rattle.std.proofs.Common.{◌≡◌, ◌∙◌, [], ◌∷◌, ◌++◌, List, drop, map, ap, sym, arith}
 use Rattle.cd_packet.specs.declared.packet.Packet.{Packet}
 use Rattle.cd_pcapng.specs.Fronts.{packet_in}
 use Rattle.cd_pcapng.specs.declared.packet_place.PacketPlace.{PacketPlace}
@@ -39,6 +39,6 @@ returns-clause-history c =
     ap (λ ps. map seen ps) c.in-Some.ensures ∙ ap (λ p. p ∷ others) (sym is) in
     rw (c.give.ensures, ← c.self.view_is)
     (λ fed given h. (
-    one_given _ c.in_ok-packet.packet others fed given first h,
-    packets_in_order fed given others c.in_ok-packet.packet (packets_known _ fed given h ∙ ap (λ ps. given ++ ps) first),
+      one_given _ c.in_ok-packet.packet others fed given first h,
+      packets_in_order fed given others c.in_ok-packet.packet (packets_known _ fed given h ∙ ap (λ ps. given ++ ps) first),
     ))
