@@ -350,30 +350,3 @@ module _ (depth : ℕ) (bytes : List ℕ) (at : ℕ) (item : Item) (end : ℕ) (
       let k = bound (byte_at at bytes) first _ (Ok (item, end)) there read_by in
       let j = if_false (nat_lt (first % 32) 28) _ _ (le-ltb (first % 32) 28 high) k in
       indefinite_of depth bytes at item end (major_type (first / 32)) (if_err_else (nat_lt (first % 32) 31) _ _ (item, end) j).1
-
--- what is seen of an item by its head
-module _ (argument : Option ℕ) (next depth : ℕ) (bytes : List ℕ) (item : Item) (end : ℕ) where
-  pub unsigned_seen : (kind : MajorType) (n : ℕ) → HeadOf kind argument next depth bytes item end → kind ≡ major.Unsigned → argument ≡ Some n →
-      (unsigned_in (out-Item item) ≡ Some n) × (next ≡ end)
-  unsigned_seen kind n h k a = let g = rw (k, a) at h in (ap unsigned_in g.0, g.1)
-
-  pub never_bare : (kind : MajorType) → HeadOf kind argument next depth bytes item end → kind ≡ major.Unsigned → argument ≡ None → ⊥
-  never_bare kind h k a = let g = rw (k, a) at h in g
-
-  pub not_unsigned : (kind : MajorType) → HeadOf kind argument next depth bytes item end → (kind ≡ major.Unsigned → ⊥) → unsigned_in (out-Item item) ≡ None
-  not_unsigned major.Unsigned h apart = absurd (apart refl)
-  not_unsigned major.Negative h apart = negative_seen argument h
-    where
-      negative_seen : (a : Option ℕ) → HeadOf major.Negative a next depth bytes item end → unsigned_in (out-Item item) ≡ None
-      negative_seen None g = absurd g
-      negative_seen (Some n) g = ap unsigned_in g.0
-  not_unsigned major.Bytes h apart = bytes_seen argument h
-    where
-      bytes_seen : (a : Option ℕ) → HeadOf major.Bytes a next depth bytes item end → unsigned_in (out-Item item) ≡ None
-      bytes_seen None g = ap unsigned_in g.1
-      bytes_seen (Some n) g = ap unsigned_in g.0
-  not_unsigned major.Text h apart = ap unsigned_in h.1
-  not_unsigned major.Array h apart = ap unsigned_in h.1
-  not_unsigned major.Map h apart = ap unsigned_in h.1
-  not_unsigned major.Tag h apart = ap unsigned_in h.1
-  not_unsigned major.Simple h apart = ap unsigned_in h.1

@@ -4,3 +4,4 @@ pub mod MapSizes
 pub mod Numbers
 pub mod Sizes
 pub mod HeadsOf
+pub mod HeadsSeen
