@@ -137,7 +137,7 @@ chunk_is bytes is_text before at content place h =
 abbrev pub in_chunks : List Wanted → Bool → List ℕ → Open
 in_chunks wants is_text content = record { wants = wants; chunks = Some (is_text, content) }
 
-chunk_stop : (w : List Wanted) (is_text : Bool) (content held : List ℕ) (first : ℕ) → byte_at 0 held ≡ Ok first → first ≡ 255 →
+pub chunk_stop : (w : List Wanted) (is_text : Bool) (content held : List ℕ) (first : ℕ) → byte_at 0 held ≡ Ok first → first ≡ 255 →
     front_step (in_chunks w is_text content) held ≡ Ok ((Some (string_event is_text content), among (passed w)), 1)
 unfolding step_in chunk_front
 chunk_stop w is_text content held first there is = rw (there, is) refl
@@ -146,7 +146,7 @@ chunk_none : (w : List Wanted) (is_text : Bool) (content held : List ℕ) (e : C
 unfolding step_in chunk_front
 chunk_none w is_text content held e none = rw none refl
 
-chunk_more : (w : List Wanted) (is_text : Bool) (content held : List ℕ) (first : ℕ) (chunk : List ℕ) (place : ℕ × ℕ) → byte_at 0 held ≡ Ok first → (first ≡ 255 → ⊥) →
+pub chunk_more : (w : List Wanted) (is_text : Bool) (content held : List ℕ) (first : ℕ) (chunk : List ℕ) (place : ℕ × ℕ) → byte_at 0 held ≡ Ok first → (first ≡ 255 → ⊥) →
     chunk_at is_text held (length content, 0) ≡ Ok (chunk, place) → front_step (in_chunks w is_text content) held ≡ Ok ((None, in_chunks w is_text (content ++ chunk)), place.1)
 unfolding step_in chunk_front
 chunk_more w is_text content held first chunk place there on gives = rw (there, ne_eqb first 255 on, gives) refl

@@ -4,10 +4,14 @@ pub mod Items
 pub mod Integers
 pub mod Heads
 pub mod Spells
+pub mod Fitting
 pub mod Readings
 pub mod Reading
+pub mod Ends
 pub mod Events
 pub mod Following
 pub mod EventLaws
+pub mod Telling
+pub mod OnePath
 pub mod Scanning
 pub mod Laws
