@@ -109,7 +109,7 @@ item_any depth bytes broken at x h =
     item_at_is depth bytes why.Break at ∙ by_any depth (item_at (depth - 1) bytes) broken at bytes x (sym (item_at_is depth bytes broken at) ∙ h)
 
 -- items that are left are not at their end
-more_left : (count : ℕ) (bytes : List ℕ) (at : ℕ) → ended_at (Some (suc count)) bytes at ≡ None
+pub more_left : (count : ℕ) (bytes : List ℕ) (at : ℕ) → ended_at (Some (suc count)) bytes at ≡ None
 more_left count bytes at = rw (ne_eqb (suc count) 0 (λ e. omega arith)) refl
 
 -- so many items

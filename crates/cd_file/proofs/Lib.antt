@@ -5,3 +5,4 @@ pub mod Numbers
 pub mod Sizes
 pub mod HeadsOf
 pub mod HeadsSeen
+pub mod Elements

@@ -13,7 +13,7 @@ use Rattle.cd_file.specs.declared.reading.fault.ItemFault.TheVariants as fault
 use Rattle.cd_cbor.specs.declared.integer.Integer.{Integer}
 use Rattle.cd_cbor.specs.declared.integer.Integer.TheVariants.{Unsigned, Negative}
 use Rattle.cd_file.specs.Refusing.{Refusing, ◌>>=◌}
-use Rattle.cd_file.specs.Kinds.{below}
+use Rattle.cd_file.specs.Kinds.{Kind, below, each}
 use Rattle.cd_file.specs.ReadFile.{begins_with_break, one_less}
 
 -- this item stands at an offset, in which so many arrays, maps and tags may be open, and ends there
@@ -140,3 +140,11 @@ abbrev pub with_front : {A : Type 0} → List A → Refusing (List A) → Refusi
 with_front front reading = do
   values ← reading
   Ok (front ++ values)
+
+-- In the course of reading items one after another these values were read, and what is read of the items that are left comes
+-- behind them. So many items were passed, each with a byte at least.
+pub record Gathers {A : Type 0} (kind : Kind A) (key : ℤ) (depth : ℕ) (bytes : List ℕ) (left : Option ℕ) (here passed : ℕ) (values : List A) (items : List Item) (end : ℕ) : Type 0 where
+  pub rest : List Item
+  pub stands : ItemsAt depth bytes left here rest end
+  pub reads : each kind key items ≡ with_front values (each kind key rest)
+  pub far : passed ≤ here

@@ -29,13 +29,13 @@ pub fn unsigned(bytes: &[u8], at: usize, key: u64) -> Result<(u64, usize), ItemF
 }
 
 /// A number from 0, of 16 bits.
-#[tactic(auto, unfolding(crate::specs::Kinds::unsigned_below))]
+#[tactic(auto, unfolding(crate::specs::Kinds::unsigned, crate::specs::Kinds::unsigned_below))]
 pub fn word(bytes: &[u8], at: usize, key: u64) -> Result<(u16, usize), ItemFault>
     ensures { (depth : ℕ) → ReadsItem (λ n. n) result depth bytes.now at (kinds.unsigned_below 0x1_0000 (pos key)) }
 {
-    let (n, next) = match unsigned(bytes, at, key) {
-        Ok(read) => read,
-        Err(fault) => return Err(fault),
+    let (n, next) = match unsigned_at(bytes, at) {
+        Some(read) => read,
+        None => return Err(shape(key)),
     };
     if n < 0x1_0000 {
         Ok((n as u16, next))
@@ -45,13 +45,13 @@ pub fn word(bytes: &[u8], at: usize, key: u64) -> Result<(u16, usize), ItemFault
 }
 
 /// A number from 0, of 8 bits.
-#[tactic(auto, unfolding(crate::specs::Kinds::unsigned_below))]
+#[tactic(auto, unfolding(crate::specs::Kinds::unsigned, crate::specs::Kinds::unsigned_below))]
 pub fn byte(bytes: &[u8], at: usize, key: u64) -> Result<(u8, usize), ItemFault>
     ensures { (depth : ℕ) → ReadsItem (λ n. n) result depth bytes.now at (kinds.unsigned_below 0x100 (pos key)) }
 {
-    let (n, next) = match unsigned(bytes, at, key) {
-        Ok(read) => read,
-        Err(fault) => return Err(fault),
+    let (n, next) = match unsigned_at(bytes, at) {
+        Some(read) => read,
+        None => return Err(shape(key)),
     };
     if n < 0x100 {
         Ok((n as u8, next))
@@ -61,7 +61,7 @@ pub fn byte(bytes: &[u8], at: usize, key: u64) -> Result<(u8, usize), ItemFault>
 }
 
 /// A number from 0, which is absent unless it is below a bound of 16 bits.
-#[tactic(auto, unfolding(crate::specs::Kinds::unsigned_if_below))]
+#[tactic(auto, unfolding(crate::specs::Kinds::unsigned, crate::specs::Kinds::unsigned_if_below))]
 pub fn word_if_below(
     bytes: &[u8],
     at: usize,
@@ -71,9 +71,9 @@ pub fn word_if_below(
     requires { bound ≤ 0x1_0000 }
     ensures { (depth : ℕ) → ReadsItem (λ n. n) result depth bytes.now at (kinds.unsigned_if_below bound (pos key)) }
 {
-    let (n, next) = match unsigned(bytes, at, key) {
-        Ok(read) => read,
-        Err(fault) => return Err(fault),
+    let (n, next) = match unsigned_at(bytes, at) {
+        Some(read) => read,
+        None => return Err(shape(key)),
     };
     if n < bound {
         Ok((Some(n as u16), next))
@@ -83,7 +83,7 @@ pub fn word_if_below(
 }
 
 /// A number from 0, which is absent unless it is below a bound of 8 bits.
-#[tactic(auto, unfolding(crate::specs::Kinds::unsigned_if_below))]
+#[tactic(auto, unfolding(crate::specs::Kinds::unsigned, crate::specs::Kinds::unsigned_if_below))]
 pub fn byte_if_below(
     bytes: &[u8],
     at: usize,
@@ -93,9 +93,9 @@ pub fn byte_if_below(
     requires { bound ≤ 0x100 }
     ensures { (depth : ℕ) → ReadsItem (λ n. n) result depth bytes.now at (kinds.unsigned_if_below bound (pos key)) }
 {
-    let (n, next) = match unsigned(bytes, at, key) {
-        Ok(read) => read,
-        Err(fault) => return Err(fault),
+    let (n, next) = match unsigned_at(bytes, at) {
+        Some(read) => read,
+        None => return Err(shape(key)),
     };
     if n < bound {
         Ok((Some(n as u8), next))
