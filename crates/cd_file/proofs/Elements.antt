@@ -1,17 +1,16 @@
 -- Items that are read one after another, as a loop reads them.
-use Rattle.std.proofs.Common.{◌≡◌, ℕ, zero, suc, ◌+◌, ◌<◌, ◌≤◌, List, [], ◌∷◌, ◌++◌, length, drop, Option, Some, None, Result, Ok, Err, refl, ap, sym, ◌∙◌, arith, append_assoc}
+use Rattle.std.proofs.Common.{◌≡◌, ℕ, zero, suc, ◌+◌, ◌<◌, ◌≤◌, List, [], ◌∷◌, ◌++◌, length, drop, Option, Some, None, Ok, Err, refl, ap, sym, ◌∙◌, arith, append_assoc}
 use Rattle.std.specs.Prelude.{ℤ, All}
 use Rattle.std.proofs.lemmas.List.{append-nil}
 use Rattle.cd_cbor.specs.declared.item.Item.{Item}
 use Rattle.cd_cbor.specs.declared.fault.Why.TheVariants as why
 use Rattle.cd_cbor.proofs.Growing.{item_within}
-use Rattle.cd_file.specs.declared.refusal.FileWhy.{FileWhy}
 use Rattle.cd_file.specs.declared.reading.fault.ItemFault.{ItemFault}
 use Rattle.cd_file.specs.declared.reading.fault.ItemFault.TheVariants as fault
 use Rattle.cd_file.specs.Refusing.{Refusing, ◌>>=◌}
 use Rattle.cd_file.specs.Kinds.{Kind, each}
 use Rattle.cd_file.specs.ReadFile.{begins_with_break, one_less}
-use Rattle.cd_file.specs.ItemReading.{ItemAt, ItemsAt, ended_at, Reads, ReadsItem, Gathers, with_front}
+use Rattle.cd_file.specs.ItemReading.{ItemsAt, ended_at, Reads, ReadsItem, Gathers, with_front}
 use Rattle.cd_file.proofs.HeadsOf.{more_left}
 
 -- no values before others

@@ -1,12 +1,11 @@
 -- What is seen of an item that stands at an offset, by its head.
-use Rattle.std.proofs.Common.{◌≡◌, ℕ, zero, suc, ◌+◌, ◌-◌, ◌^◌, ◌<◌, List, Option, Some, None, refl, ap, sym, ◌∙◌, arith}
-use Rattle.std.specs.Prelude.{ℤ, pos, negsuc, ◌-ℤ◌}
+use Rattle.std.proofs.Common.{◌≡◌, ℕ, zero, suc, ◌+◌, List, Option, Some, None, refl, ap, arith}
+use Rattle.std.specs.Prelude.{pos, negsuc, ◌-ℤ◌}
 use Rattle.cd_cbor.specs.declared.item.Item.{Item}
 use Rattle.cd_cbor.specs.declared.item.Item.TheViews.{out-Item}
-use Rattle.cd_cbor.specs.declared.item.Item.TheOpen.{Item-F}
 use Rattle.cd_cbor.specs.declared.major_type.MajorType.{MajorType}
 use Rattle.cd_cbor.specs.declared.major_type.MajorType.TheVariants as major
-use Rattle.cd_file.specs.Kinds.{unsigned_in, signed_in, integer_in, items_in, pairs_in}
+use Rattle.cd_file.specs.Kinds.{unsigned_in, items_in, pairs_in}
 use Rattle.cd_file.specs.ItemReading.{HeadOf, Views, ViewsItems, ViewsPairs, number_in, number_of_head, unsigned_of_head, items_of_head, pairs_of_head}
 
 module _ (next depth : ℕ) (bytes : List ℕ) (item : Item) (end : ℕ) where

@@ -146,13 +146,7 @@ pub fn signed_of(n: Integer) -> Option<i64>
     ensures { result ≡ reading.signed_by n }
 {
     match n {
-        Integer::Unsigned(n) => {
-            if n < 1 << 63 {
-                Some(n as i64)
-            } else {
-                None
-            }
-        }
+        Integer::Unsigned(n) => { if n < 1 << 63 { Some(n as i64) } else { None } }
         Integer::Negative(n) => {
             if n < 1 << 63 {
                 Some(-1 - n as i64)
@@ -178,13 +172,7 @@ pub fn ended_at(bytes: &[u8], left: Option<u64>, at: usize) -> Option<usize>
     ensures { result ≡ reading.ended_at left bytes.now at }
 {
     match left {
-        Some(n) => {
-            if n == 0 {
-                Some(at)
-            } else {
-                None
-            }
-        }
+        Some(n) => { if n == 0 { Some(at) } else { None } }
         None => {
             if at < bytes.len() && bytes[at] == BREAK {
                 Some(at + 1)
