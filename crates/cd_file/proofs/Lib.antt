@@ -4,3 +4,5 @@ pub mod MapSizes
 pub mod Numbers
 pub mod Sizes
 pub mod HeadsOf
+pub mod HeadsSeen
+pub mod Elements
