@@ -68,7 +68,7 @@ chunk_front_goes bytes more is_text content =
     (λ first e. goes_if bytes (nat_eq first 255) _ _ _ _ (goes_ok bytes _ _ refl)
     (goes_bind bytes _ _ _ _ (chunk_goes bytes more is_text (length content, 0)) (λ chunk e. goes_ok bytes _ _ refl)))
 
-step_goes : (bytes more : List ℕ) (wants : List Wanted) (chunks : Option (Bool × List ℕ)) → Goes bytes (step_in wants chunks bytes) (step_in wants chunks (bytes ++ more))
+pub step_goes : (bytes more : List ℕ) (wants : List Wanted) (chunks : Option (Bool × List ℕ)) → Goes bytes (step_in wants chunks bytes) (step_in wants chunks (bytes ++ more))
 unfolding step_in
 step_goes bytes more wants None = goes_bind bytes _ _ _ _ (head_front_goes bytes more (most_depth - length wants) (innermost wants)) (λ head e. goes_ok bytes _ _ refl)
 step_goes bytes more wants (Some string) = goes_bind bytes _ _ _ _ (chunk_front_goes bytes more string.0 string.1) (λ chunk e. goes_ok bytes _ _ refl)

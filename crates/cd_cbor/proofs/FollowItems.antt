@@ -119,7 +119,7 @@ pub record ChunkIs (bytes : List ℕ) (before at : ℕ) (content : List ℕ) (pl
   pub ahead : at < place.1
   pub within : place.1 ≤ length bytes
 
-chunk_is : (bytes : List ℕ) (is_text : Bool) (before at : ℕ) (content : List ℕ) (place : ℕ × ℕ) → chunk_at is_text bytes (before, at) ≡ Ok (content, place) → ChunkIs bytes before at content place
+pub chunk_is : (bytes : List ℕ) (is_text : Bool) (before at : ℕ) (content : List ℕ) (place : ℕ × ℕ) → chunk_at is_text bytes (before, at) ≡ Ok (content, place) → ChunkIs bytes before at content place
 unfolding chunk_at
 chunk_is bytes is_text before at content place h =
     let byte = bind_ok (byte_at at bytes) _ (content, place) h in
@@ -137,7 +137,7 @@ chunk_is bytes is_text before at content place h =
 abbrev pub in_chunks : List Wanted → Bool → List ℕ → Open
 in_chunks wants is_text content = record { wants = wants; chunks = Some (is_text, content) }
 
-chunk_stop : (w : List Wanted) (is_text : Bool) (content held : List ℕ) (first : ℕ) → byte_at 0 held ≡ Ok first → first ≡ 255 →
+pub chunk_stop : (w : List Wanted) (is_text : Bool) (content held : List ℕ) (first : ℕ) → byte_at 0 held ≡ Ok first → first ≡ 255 →
     front_step (in_chunks w is_text content) held ≡ Ok ((Some (string_event is_text content), among (passed w)), 1)
 unfolding step_in chunk_front
 chunk_stop w is_text content held first there is = rw (there, is) refl
@@ -146,7 +146,7 @@ chunk_none : (w : List Wanted) (is_text : Bool) (content held : List ℕ) (e : C
 unfolding step_in chunk_front
 chunk_none w is_text content held e none = rw none refl
 
-chunk_more : (w : List Wanted) (is_text : Bool) (content held : List ℕ) (first : ℕ) (chunk : List ℕ) (place : ℕ × ℕ) → byte_at 0 held ≡ Ok first → (first ≡ 255 → ⊥) →
+pub chunk_more : (w : List Wanted) (is_text : Bool) (content held : List ℕ) (first : ℕ) (chunk : List ℕ) (place : ℕ × ℕ) → byte_at 0 held ≡ Ok first → (first ≡ 255 → ⊥) →
     chunk_at is_text held (length content, 0) ≡ Ok (chunk, place) → front_step (in_chunks w is_text content) held ≡ Ok ((None, in_chunks w is_text (content ++ chunk)), place.1)
 unfolding step_in chunk_front
 chunk_more w is_text content held first chunk place there on gives = rw (there, ne_eqb first 255 on, gives) refl
@@ -253,19 +253,19 @@ head_opens fed w depth given position at info whole rest tell does leads is fron
     ]
 
 -- what an array and a map do where they hold nothing, and where they hold something
-array_none : (w : List Wanted) → acted (array_act 0) w ≡ passed w
+pub array_none : (w : List Wanted) → acted (array_act 0) w ≡ passed w
 unfolding acted
 array_none w = refl
 
-array_some : (k : ℕ) (w : List Wanted) → acted (array_act (suc k)) w ≡ wanted.Items k ∷ w
+pub array_some : (k : ℕ) (w : List Wanted) → acted (array_act (suc k)) w ≡ wanted.Items k ∷ w
 unfolding acted
 array_some k w = let back : suc k - 1 ≡ k = omega arith in rw (ne_eqb (suc k) 0 (λ z. absurd (omega arith)), back) refl
 
-map_none : (w : List Wanted) → acted (map_act 0) w ≡ passed w
+pub map_none : (w : List Wanted) → acted (map_act 0) w ≡ passed w
 unfolding acted
 map_none w = refl
 
-map_some : (k : ℕ) (w : List Wanted) → acted (map_act (suc k)) w ≡ wanted.Pairs k ∷ w
+pub map_some : (k : ℕ) (w : List Wanted) → acted (map_act (suc k)) w ≡ wanted.Pairs k ∷ w
 unfolding acted
 map_some k w = let back : suc k - 1 ≡ k = omega arith in rw (ne_eqb (suc k) 0 (λ z. absurd (omega arith)), back) refl
 

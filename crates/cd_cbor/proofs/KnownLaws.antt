@@ -1,9 +1,10 @@
 -- The laws of spellings.
-use Rattle.std.proofs.Common.{◌≡◌, ℕ, ◌+◌, List, [], ◌∷◌, ◌++◌, length, take, drop, Ok, refl, ap, sym, subst, ◌∙◌, arith, length-append}
+use Rattle.std.proofs.Common.{◌≡◌, ℕ, ◌+◌, ◌-◌, List, [], ◌∷◌, ◌++◌, length, take, drop, Ok, refl, ap, sym, subst, ◌∙◌, arith, length-append}
 use Rattle.std.proofs.lemmas.List.{append-nil}
 use Rattle.std.proofs.Math.Seq.{take-append_seam}
-use Rattle.cd_cbor.specs.Laws.{SpelledIsRead, ReadIsSpelled, NoSpellingGoesOn, OneItemIsSpelled, ReadingsStay, WrittenIsSpelling}
+use Rattle.cd_cbor.specs.Laws.{SpelledIsRead, SpelledIsReadThere, ReadIsSpelled, ReadIsSpelledThere, NoSpellingGoesOn, OneItemIsSpelled, ReadingsStay, FittingIsSpelled, SpelledFits, WrittenIsSpelling}
 use Rattle.cd_cbor.specs.Spells.{Cbor, Spells, most_depth}
+use Rattle.cd_cbor.specs.Readings.{piece}
 use Rattle.cd_cbor.specs.Reading.{cbor}
 use Rattle.cd_cbor.specs.declared.fault.Why.TheVariants as why
 use Rattle.cd_cbor.proofs.Binds.{ok_same}
@@ -11,7 +12,9 @@ use Rattle.cd_cbor.proofs.ItemsRead.{item_reads}
 use Rattle.cd_cbor.proofs.Stands.{Stands}
 use Rattle.cd_cbor.proofs.ItemsStand.{item_sound}
 use Rattle.cd_cbor.proofs.Growing.{item_goes, item_within}
+use Rattle.cd_cbor.proofs.Offsets.{piece_is}
 use Rattle.cd_cbor.proofs.Written.{item_written}
+use Rattle.cd_cbor.proofs.SpelledFit.{item_fits}
 
 pub spelled_is_read : SpelledIsRead
 unfolding Cbor
@@ -44,13 +47,28 @@ one_item_is_spelled one another bytes h k =
     ap (λ x. x.0) (ok_same (one, length bytes) (another, length bytes) (sym (spelled_is_read one bytes [] h) ∙ spelled_is_read another bytes [] k))
 
 pub readings_stay : ReadingsStay
-readings_stay bytes all =
-    let apart : why.Break ≡ why.End → ⊥ = λ e. cc in
-    record {
-      stays = λ more never. (item_goes most_depth bytes more all why.Break apart 0).stays never;
-      ends = λ at h. (item_goes most_depth bytes [] all why.Break apart 0).ends at h;
-    }
+readings_stay depth bytes broken at all apart = record {
+  stays = λ more never. (item_goes depth bytes more all broken apart at).stays never;
+  ends = λ place h. (item_goes depth bytes [] all broken apart at).ends place h;
+}
+
+pub spelled_is_read_there : SpelledIsReadThere
+spelled_is_read_there depth item bytes spelled more broken at is h = item_reads depth bytes broken at item spelled more is h
+
+pub read_is_spelled_there : ReadIsSpelledThere
+read_is_spelled_there depth bytes broken at item next all h =
+    let st : Stands (Spells depth) bytes at item next = item_sound depth bytes all broken at item next h in
+    let within = item_within depth bytes all broken at item next h in
+    let size : next - at ≡ length st.s = omega (arith, st.ends) in
+    let there : piece at (next - at) bytes ≡ st.s = ap (λ k. piece at k bytes) size ∙ piece_is at bytes st.s (drop next bytes) st.is in
+    (within.0, within.1, subst (Spells depth item) (sym there) st.has)
+
+pub fitting_is_spelled : FittingIsSpelled
+fitting_is_spelled depth item fits = item_written depth item fits
+
+pub spelled_fits : SpelledFits
+spelled_fits depth item bytes few h = item_fits depth item bytes few h
 
 pub written_is_spelling : WrittenIsSpelling
 unfolding Cbor
-written_is_spelling item bytes few h = item_written most_depth item bytes few h
+written_is_spelling item bytes few h = item_written most_depth item (item_fits most_depth item bytes few h)

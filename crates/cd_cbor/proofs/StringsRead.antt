@@ -37,7 +37,7 @@ string_reads is_text before at bytes content s rest e h short =
     (ap (λ n. Ok (content, n)) sum)
 
 -- a chunk
-chunk_reads : (is_text : Bool) (before at : ℕ) (bytes content s rest : List ℕ) → drop at bytes ≡ s ++ rest → SpellsString is_text content s →
+pub chunk_reads : (is_text : Bool) (before at : ℕ) (bytes content s rest : List ℕ) → drop at bytes ≡ s ++ rest → SpellsString is_text content s →
     before + length content ≤ most_string → chunk_at is_text bytes (before, at) ≡ Ok (content, (before + length content, at + length s))
 unfolding chunk_at
 chunk_reads is_text before at bytes content s rest e h short =

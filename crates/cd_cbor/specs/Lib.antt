@@ -4,9 +4,12 @@ pub mod Items
 pub mod Integers
 pub mod Heads
 pub mod Spells
+pub mod Fitting
 pub mod Readings
 pub mod Reading
 pub mod Events
 pub mod Following
 pub mod EventLaws
+pub mod Telling
+pub mod OnePath
 pub mod Laws

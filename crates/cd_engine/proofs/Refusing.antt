@@ -12,8 +12,9 @@ use Rattle.cd_packet.specs.declared.capture.EndState.{EndState}
 use Rattle.cd_packet.specs.declared.capture.EndState.TheVariants.{Whole, Cut, Bad}
 use Rattle.cd_packet.specs.declared.packet.Packet.{Packet}
 use Rattle.cd_packet.proofs.Growing.{has_magic-append, has_magic-many, has_magic-few}
-use Rattle.cd_pcap.specs.Pcap.{is_little_micro, pcap}
+use Rattle.cd_pcap.specs.Pcap.{form_of, pcap}
 use Rattle.cd_pcap.proofs.Extending.{pcap-grow}
+use Rattle.cd_pcap.proofs.Forms.{form_of-few}
 use Rattle.cd_pcap.proofs.Records.{pcap-magic, pcap-none}
 use Rattle.cd_pcap.proofs.Refusals.{packets_before}
 use Rattle.cd_engine.specs.CapturesGo.{none_chosen, other_few, other_stays, other_unread, refusal_few, refusal_many, at_end_other, at_end_read}
@@ -47,7 +48,7 @@ unserved-append rules (p ∷ ps) qs at e =
 
 -- fewer than four bytes have no packet
 pub packets-few : (bytes : List ℕ) → length bytes < 4 → (pcap bytes).packets ≡ []
-packets-few bytes few = ap (λ (c : Capture). c.packets) (pcap-magic bytes (has_magic-few 0xa1b2c3d4 bytes few))
+packets-few bytes few = ap (λ (c : Capture). c.packets) (pcap-magic bytes (form_of-few bytes few))
 
 -- nor have bytes of another format
 pub packets-other : (bytes : List ℕ) → 4 ≤ length bytes → is_other_format bytes ≡ true → (pcap bytes).packets ≡ []
@@ -85,7 +86,7 @@ no_packets = ap (λ (c : Capture). c.packets) pcap-none
 -- none is compacted of fewer than four bytes
 pub compacted-few : (rules : EventRules) (bytes : List ℕ) → length bytes < 4 → compacted_packets rules bytes ≡ []
 compacted-few rules bytes few =
-    let end = ap (λ (c : Capture). refusal_of_end c.end) (pcap-magic bytes (has_magic-few 0xa1b2c3d4 bytes few)) in
+    let end = ap (λ (c : Capture). refusal_of_end c.end) (pcap-magic bytes (form_of-few bytes few)) in
     compacted-at rules bytes _ (at_end-few rules bytes few ∙ end) ∙ no_packets
 
 -- nor of another format
@@ -211,7 +212,7 @@ cut_known rules fed None end is known =
     let end_is : is_cut end ≡ is_cut (pcap fed).end = ap is_cut (known refl) in
     elim (cases_lt (length fed) 4) [
       | inl few ↦
-          let bad = ap (λ (c : Capture). c.end) (pcap-magic fed (has_magic-few 0xa1b2c3d4 fed few)) in
+          let bad = ap (λ (c : Capture). c.end) (pcap-magic fed (form_of-few fed few)) in
           end_is ∙ ap is_cut bad
           ∙ sym (ap (λ o. is_cut_short o (pcap fed).end) (at_end-few rules fed few ∙ ap refusal_of_end bad))
       | inr four ↦
@@ -226,7 +227,7 @@ open_end Cut h = refl
 open_end (Bad b) h = absurd h
 
 -- bytes that are read as no capture have a refused place
-no_capture : (bytes : List ℕ) → is_little_micro bytes ≡ false → IsWholeOrCut (pcap bytes).end → ⊥
+no_capture : (bytes : List ℕ) → form_of bytes ≡ None → IsWholeOrCut (pcap bytes).end → ⊥
 no_capture bytes other h = let P : Capture → Type 0 = λ c. IsWholeOrCut c.end in subst P (pcap-magic bytes other) h
 
 -- A capture that ends between records or within one, and has no packet that is not read yet, is refused for nothing.
@@ -238,7 +239,7 @@ pub served_unrefused : (rules : EventRules) (bytes : List ℕ) → IsWholeOrCut 
     IsUnrefused rules bytes
 served_unrefused rules bytes end served =
     elim (cases_lt (length bytes) 4) [
-      | inl few ↦ absurd (no_capture bytes (has_magic-few 0xa1b2c3d4 bytes few) end)
+      | inl few ↦ absurd (no_capture bytes (form_of-few bytes few) end)
       | inr four ↦ elim (cases_Bool (is_other_format bytes)) [
         | inl other ↦ absurd (no_capture bytes (other_unread bytes other) end)
         | inr read ↦

@@ -11,8 +11,9 @@ use Rattle.cd_packet.specs.declared.capture.EndState.{EndState}
 use Rattle.cd_packet.specs.declared.capture.EndState.TheVariants.{Whole, Cut, Bad}
 use Rattle.cd_packet.specs.declared.packet.Packet.{Packet}
 use Rattle.cd_packet.proofs.Growing.{has_magic-append, has_magic-many, has_magic-few}
-use Rattle.cd_pcap.specs.Pcap.{is_little_micro, pcap}
+use Rattle.cd_pcap.specs.Pcap.{is_little_micro, form_of, pcap}
 use Rattle.cd_pcap.proofs.Extending.{pcap-grow, pcap-goes_on}
+use Rattle.cd_pcap.proofs.Forms.{form_of-few, form_of-other}
 use Rattle.cd_pcap.proofs.Records.{pcap-magic, pcap-none}
 use Rattle.cd_pcap.proofs.Refusals.{packets_before}
 use Rattle.cd_engine.specs.BeforePackets.{packets-place}
@@ -70,11 +71,11 @@ other_unread_many bytes four other =
     ]
 
 -- another format is not the one that is read
-pub other_unread : (bytes : List ℕ) → is_other_format bytes ≡ true → is_little_micro bytes ≡ false
+pub other_unread : (bytes : List ℕ) → is_other_format bytes ≡ true → form_of bytes ≡ None
 other_unread bytes other =
     elim (cases_lt (length bytes) 4) [
-      | inl few ↦ has_magic-few 0xa1b2c3d4 bytes few
-      | inr four ↦ other_unread_many bytes four other
+      | inl few ↦ form_of-few bytes few
+      | inr four ↦ form_of-other bytes (other_unread_many bytes four other)
     ]
 
 -- a choice that gives nothing

@@ -1,15 +1,16 @@
 -- What a capture becomes as its bytes go on, and how many bytes its records have.
 use Rattle.std.proofs.Common.{◌≡◌, ℕ, zero, suc, ◌+◌, ◌*◌, ◌<◌, ◌≤◌, List, [], ◌∷◌, ◌++◌, length, drop, refl, ap, sym, ◌∙◌, arith, subst, inl, inr, length-append}
-use Rattle.std.proofs.lemmas.Bool.{cases_lt, cases_eq, cases_Bool}
+use Rattle.std.proofs.lemmas.Bool.{cases_lt, cases_eq}
 use Rattle.std.proofs.lemmas.List.{length-drop}
-use Rattle.cd_bytes.proofs.Offsets.{le16-append, number32_at-append}
+use Rattle.cd_bytes.proofs.Offsets.{number16_at-append, number32_at-append}
 use Rattle.cd_packet.specs.Capture.{Capture, ends, after, IsWholeOrCut, Grows}
 use Rattle.cd_pcap.specs.Laws.{CapturesGrow}
-use Rattle.cd_pcap.specs.Pcap.{Form, little_micros, version, link_type, captured_length, is_little_micro, packet_at, records, pcap}
+use Rattle.cd_pcap.specs.Pcap.{Form, form_of, version, link_type, captured_length, packet_at, records, pcap}
 use Rattle.cd_packet.specs.declared.capture.EndState.{EndState}
 use Rattle.cd_packet.specs.declared.capture.CaptureWhy.TheVariants.{Magic, Version, Record}
+use Rattle.cd_pcap.proofs.Forms.{cases_form, form_of-append, form_of-few}
 use Rattle.cd_pcap.proofs.Records.{records-short, records-refused, records-cut, records-first, pcap-magic, pcap-short, pcap-version, pcap-records}
-use Rattle.cd_packet.proofs.Growing.{has_magic-append, has_magic-few, grows_at, grows_whole, grows_cut, grows_refused, grows_after}
+use Rattle.cd_packet.proofs.Growing.{grows_at, grows_whole, grows_cut, grows_refused, grows_after}
 use Rattle.cd_pcap.proofs.Going.{packet_at-append, pcap-front}
 
 open_at : (e : EndState) (c : Capture) → c ≡ ends e → IsWholeOrCut c.end → IsWholeOrCut e
@@ -46,15 +47,15 @@ pub pcap-few : (bytes : List ℕ) → IsWholeOrCut (pcap bytes).end → length b
 pcap-few bytes h =
     elim (cases_lt (length bytes) 24) [
       | inl short ↦ omega arith
-      | inr long ↦ elim (cases_Bool (is_little_micro bytes)) [
-        | inr other ↦ absurd (open_at _ _ (pcap-magic bytes other) h)
-        | inl magic ↦ elim (cases_eq (version little_micros bytes) 2) [
-          | inr three ↦ absurd (open_at _ _ (pcap-version bytes magic long three) h)
+      | inr long ↦ elim (cases_form bytes) [
+        | inl none ↦ absurd (open_at _ _ (pcap-magic bytes none) h)
+        | inr (form, magic) ↦ elim (cases_eq (version form bytes) 2) [
+          | inr three ↦ absurd (open_at _ _ (pcap-version form bytes magic long three) h)
           | inl two ↦
-              let e = pcap-records bytes magic long two in
+              let e = pcap-records form bytes magic long two in
               let P : Capture → Type 0 = λ d. IsWholeOrCut d.end in
               let Q : Capture → Type 0 = λ d. length bytes < 24 + (length d.packets * 262160 + 262160) in
-              let k = records-few little_micros (link_type little_micros bytes) 0 24 (drop 24 bytes) (subst P e h) in
+              let k = records-few form (link_type form bytes) 0 24 (drop 24 bytes) (subst P e h) in
               subst Q (sym e) (omega (arith, length-drop 24 bytes))
         ]
       ]
@@ -93,25 +94,25 @@ records-grow form link zero at (b ∷ xs) more =
 pub pcap-grow : (xs more : List ℕ) → 4 ≤ length xs → Grows (pcap xs) (pcap (xs ++ more))
 pcap-grow xs more four =
     let len : length (xs ++ more) ≡ length xs + length more = length-append xs more in
-    let magic_stays : is_little_micro (xs ++ more) ≡ is_little_micro xs = has_magic-append 0xa1b2c3d4 xs more four in
-    elim (cases_Bool (is_little_micro xs)) [
-      | inr other ↦ grows_at _ _ _ _ (pcap-magic xs other) (pcap-magic (xs ++ more) (magic_stays ∙ other)) (grows_refused 0 Magic)
-      | inl magic ↦ elim (cases_lt (length xs) 24) [
-        | inl short ↦ grows_at _ _ _ _ (pcap-short xs magic short) refl (grows_cut _)
+    let magic_stays : form_of (xs ++ more) ≡ form_of xs = form_of-append xs more four in
+    elim (cases_form xs) [
+      | inl none ↦ grows_at _ _ _ _ (pcap-magic xs none) (pcap-magic (xs ++ more) (magic_stays ∙ none)) (grows_refused 0 Magic)
+      | inr (form, magic) ↦ elim (cases_lt (length xs) 24) [
+        | inl short ↦ grows_at _ _ _ _ (pcap-short form xs magic short) refl (grows_cut _)
         | inr long ↦
-            let version_stays : version little_micros (xs ++ more) ≡ version little_micros xs = le16-append 4 xs more (omega arith) in
-            elim (cases_eq (version little_micros xs) 2) [
-              | inr three ↦ grows_at _ _ _ _ (pcap-version xs magic long three)
-                  (pcap-version (xs ++ more) (magic_stays ∙ magic) (omega arith) (λ e. three (sym version_stays ∙ e))) (grows_refused 0 Version)
-              | inl two ↦ grows_at _ _ _ _ (pcap-records xs magic long two) (pcap-front xs more magic long two)
-                  (records-grow little_micros (link_type little_micros xs) 0 24 (drop 24 xs) more)
+            let version_stays : version form (xs ++ more) ≡ version form xs = number16_at-append form.order 4 xs more (omega arith) in
+            elim (cases_eq (version form xs) 2) [
+              | inr three ↦ grows_at _ _ _ _ (pcap-version form xs magic long three)
+                  (pcap-version form (xs ++ more) (magic_stays ∙ magic) (omega arith) (λ e. three (sym version_stays ∙ e))) (grows_refused 0 Version)
+              | inl two ↦ grows_at _ _ _ _ (pcap-records form xs magic long two) (pcap-front form xs more magic long two)
+                  (records-grow form (link_type form xs) 0 24 (drop 24 xs) more)
             ]
       ]
     ]
 
 -- fewer than four bytes hold no packet
 pcap-few_bytes : (bytes : List ℕ) → length bytes < 4 → (pcap bytes).packets ≡ []
-pcap-few_bytes bytes few = ap (λ (c : Capture). c.packets) (pcap-magic bytes (has_magic-few 0xa1b2c3d4 bytes few))
+pcap-few_bytes bytes few = ap (λ (c : Capture). c.packets) (pcap-magic bytes (form_of-few bytes few))
 
 -- any bytes as others come after them
 pub pcap-goes_on : CapturesGrow

@@ -1,11 +1,11 @@
 -- What is read at the front of a capture stays, however the bytes go on.
-use Rattle.std.proofs.Common.{◌≡◌, ℕ, true, ◌+◌, ◌%◌, ◌≤◌, List, [], ◌∷◌, ◌++◌, length, take, drop, ap, ◌∙◌, arith, length-append}
+use Rattle.std.proofs.Common.{◌≡◌, ℕ, Some, ◌+◌, ◌%◌, ◌≤◌, List, [], ◌∷◌, ◌++◌, length, take, drop, ap, ◌∙◌, arith, length-append}
 use Rattle.std.proofs.lemmas.List.{take-append-le, drop-append-le, length-drop}
-use Rattle.cd_bytes.proofs.Offsets.{le16-append, le32-append, number32_at-append}
+use Rattle.cd_bytes.proofs.Offsets.{number16_at-append, number32_at-append}
 use Rattle.cd_bytes.specs.Numbers.{number32_at}
 use Rattle.cd_packet.specs.Capture.{after}
-use Rattle.cd_packet.proofs.Growing.{has_magic-append}
-use Rattle.cd_pcap.specs.Pcap.{Form, little_micros, version, link_type, captured_length, is_little_micro, packet_at, packet_of_parts, records, pcap}
+use Rattle.cd_pcap.specs.Pcap.{Form, form_of, version, link_type, captured_length, packet_at, packet_of_parts, records, pcap}
+use Rattle.cd_pcap.proofs.Forms.{form_of-append}
 use Rattle.cd_pcap.proofs.Records.{records-whole, pcap-records}
 
 pub packet_at-append : (form : Form) (link at : ℕ) (xs ys : List ℕ) → 16 + captured_length form xs ≤ length xs → packet_at form link at (xs ++ ys) ≡ packet_at form link at xs
@@ -38,14 +38,14 @@ records-front form link at xs more small fits =
     ∙ ap (λ t. after (packet_at form link at xs ∷ []) (records form link 0 (at + (16 + captured_length form xs)) t)) rest
 
 -- a header, however the bytes go on
-pub pcap-front : (xs more : List ℕ) → is_little_micro xs ≡ true → 24 ≤ length xs → version little_micros xs ≡ 2 →
-    pcap (xs ++ more) ≡ records little_micros (link_type little_micros xs) 0 24 (drop 24 xs ++ more)
-pcap-front xs more magic long two =
+pub pcap-front : (form : Form) (xs more : List ℕ) → form_of xs ≡ Some form → 24 ≤ length xs → version form xs ≡ 2 →
+    pcap (xs ++ more) ≡ records form (link_type form xs) 0 24 (drop 24 xs ++ more)
+pcap-front form xs more magic long two =
     let len : length (xs ++ more) ≡ length xs + length more = length-append xs more in
-    let same_magic : is_little_micro (xs ++ more) ≡ true = has_magic-append 0xa1b2c3d4 xs more (omega arith) ∙ magic in
-    let same_version : version little_micros (xs ++ more) ≡ 2 = le16-append 4 xs more (omega arith) ∙ two in
-    let link : link_type little_micros (xs ++ more) ≡ link_type little_micros xs = ap (λ n. n % 0x10000) (le32-append 20 xs more (omega arith)) in
+    let same_magic : form_of (xs ++ more) ≡ Some form = form_of-append xs more (omega arith) ∙ magic in
+    let same_version : version form (xs ++ more) ≡ 2 = number16_at-append form.order 4 xs more (omega arith) ∙ two in
+    let link : link_type form (xs ++ more) ≡ link_type form xs = ap (λ n. n % 0x10000) (number32_at-append form.order 20 xs more (omega arith)) in
     let rest : drop 24 (xs ++ more) ≡ drop 24 xs ++ more = drop-append-le 24 xs more long in
-    pcap-records (xs ++ more) same_magic (omega arith) same_version
-    ∙ ap (λ k. records little_micros k 0 24 (drop 24 (xs ++ more))) link
-    ∙ ap (λ t. records little_micros (link_type little_micros xs) 0 24 t) rest
+    pcap-records form (xs ++ more) same_magic (omega arith) same_version
+    ∙ ap (λ k. records form k 0 24 (drop 24 (xs ++ more))) link
+    ∙ ap (λ t. records form (link_type form xs) 0 24 t) rest

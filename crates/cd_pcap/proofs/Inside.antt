@@ -31,31 +31,31 @@ header_inside r link h none long =
       within = omega (arith, k.1, held_count r);
       counted = omega (arith, k.0, h.counted, held_count r);
       few = h.few;
-      marked = first_whole link (r.at + 24) r.whole (drop (r.start + 24) r.bytes.items) k.1;
+      marked = first_whole little_micros link (r.at + 24) r.whole (drop (r.start + 24) r.bytes.items) k.1;
     }
 
 -- the mark is moved over whole records
-pub marked_inside : (r : Inside) (records : Records) → the_invariant r → IsSome r.link → RecordsAre (r.at + r.whole) (drop r.whole (held_in r)) records →
+pub marked_inside : (r : Inside) (records : Records) → the_invariant r → IsSome r.link → RecordsAre little_micros (r.at + r.whole) (drop r.whole (held_in r)) records →
     the_invariant (record r { whole = r.whole + records.size })
 marked_inside r records h header k = record {
   within = omega (arith, k.within, h.within, held_count r, length-drop r.whole (held_in r));
   counted = h.counted;
   few = h.few;
-  marked = marked_more r.link r.at r.whole records.size (held_in r) header (sound_inside r h).within h.marked k.whole;
+  marked = marked_more little_micros r.link r.at r.whole records.size (held_in r) header (sound_inside r h).within h.marked k.whole;
 }
 
 -- the first record that is held, where a byte is marked
 pub first_inside : (r : Inside) (link : ℕ) → the_invariant r → r.link ≡ Some link → 0 < r.whole →
-    BeginsWhole link r.at (16 + captured_length little_micros (held_in r)) r.whole (held_in r)
+    BeginsWhole little_micros link r.at (16 + captured_length little_micros (held_in r)) r.whole (held_in r)
 first_inside r link h is some =
-    let P : Option ℕ → Type 0 = λ o. AreWhole o r.at (take r.whole (held_in r)) in
-    begins_whole link r.at r.whole (held_in r) (sound_inside r h).within some (subst P is h.marked)
+    let P : Option ℕ → Type 0 = λ o. AreWhole little_micros o r.at (take r.whole (held_in r)) in
+    begins_whole little_micros link r.at r.whole (held_in r) (sound_inside r h).within some (subst P is h.marked)
 
 -- the first record that is held is passed
-pub passed_inside : (r : Inside) (link size : ℕ) → the_invariant r → r.link ≡ Some link → BeginsWhole link r.at size r.whole (held_in r) →
+pub passed_inside : (r : Inside) (link size : ℕ) → the_invariant r → r.link ≡ Some link → BeginsWhole little_micros link r.at size r.whole (held_in r) →
     the_invariant (record r { start = r.start + size; at = r.at + size; whole = r.whole - size })
 passed_inside r link size h is b =
-    let P : Option ℕ → Type 0 = λ o. AreWhole o (r.at + size) (take (r.whole - size) (drop (r.start + size) r.bytes.items)) in
+    let P : Option ℕ → Type 0 = λ o. AreWhole little_micros o (r.at + size) (take (r.whole - size) (drop (r.start + size) r.bytes.items)) in
     record {
       within = omega (arith, b.within, h.within);
       counted = omega (arith, b.within, h.within, h.counted);

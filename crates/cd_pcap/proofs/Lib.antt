@@ -1,3 +1,4 @@
+pub mod Forms
 pub mod Records
 pub mod Going
 pub mod Extending

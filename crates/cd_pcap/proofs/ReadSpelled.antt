@@ -1,7 +1,7 @@
 -- What is read of some bytes is what they spell.
-use Rattle.std.proofs.Common.{◌≡◌, ℕ, true, false, zero, suc, ◌+◌, ◌%◌, ◌^◌, ◌<◌, ◌≤◌, All, List, [], ◌∷◌, ◌++◌, length, take, drop, refl, ap, sym, ◌∙◌, arith, subst, inl, inr, append_assoc, length-append}
+use Rattle.std.proofs.Common.{◌≡◌, ℕ, Some, None, zero, suc, ◌+◌, ◌%◌, ◌^◌, ◌<◌, ◌≤◌, All, List, [], ◌∷◌, ◌++◌, length, take, drop, refl, ap, sym, ◌∙◌, arith, subst, inl, inr, append_assoc, length-append}
 use Rattle.std.specs.Int.{w16, w32}
-use Rattle.std.proofs.lemmas.Bool.{cases_lt, cases_eq, cases_Bool}
+use Rattle.std.proofs.lemmas.Bool.{cases_lt, cases_eq}
 use Rattle.std.proofs.lemmas.List.{take-append-drop, drop-drop, length-drop, length-take-le}
 use Rattle.std.proofs.lemmas.List.Elements.{All-drop}
 use Rattle.cd_bytes.specs.Numbers.{bytes_of, number16_at, number32_at}
@@ -11,9 +11,10 @@ use Rattle.cd_packet.specs.Capture.{Capture, ends, after}
 use Rattle.cd_packet.specs.declared.capture.EndState.{EndState}
 use Rattle.cd_packet.specs.declared.capture.EndState.TheVariants.{Whole, Cut, Bad}
 use Rattle.cd_packet.specs.declared.capture.CaptureWhy.TheVariants.{Record}
-use Rattle.cd_pcap.specs.Pcap.{Form, little_micros, version, captured_length, is_little_micro, packet_at, records, pcap_in}
+use Rattle.cd_pcap.specs.Pcap.{Form, form_of, version, captured_length, packet_at, records, pcap_in}
 use Rattle.cd_pcap.specs.Spelled.{RawHeader, RawRecord, magic, spelling_of, spellings, packets_of, BeginsRecord, IsRest, SpellsRecords, SpellsAfterHeader, SpellsIn, HasNoMagic}
 use Rattle.cd_pcap.specs.Laws.{ReadIsSpelled}
+use Rattle.cd_pcap.proofs.Forms.{cases_form}
 use Rattle.cd_pcap.proofs.Records.{records-none, records-short, records-refused, records-cut, records-whole, pcap_in-short, pcap_in-version, pcap_in-records, pcap-magic, pcap-form}
 use Rattle.cd_pcap.proofs.Spelled.{four, header_four, spelled_four}
 use Rattle.cd_pcap.proofs.SpelledRead.{spelled_long, header_parts, header_version, magic_front, magic_found}
@@ -216,17 +217,17 @@ read_in form bytes all front =
     ]
 
 -- where the magic is not found, it is not there
-none_there : (bytes : List ℕ) → is_little_micro bytes ≡ false → HasNoMagic bytes
-none_there bytes other form more read split =
-    let is : bytes ≡ magic little_micros ++ more = split ∙ ap (λ (f : Form). magic f ++ more) read in
-    let found : is_little_micro bytes ≡ true = ap is_little_micro is ∙ magic_front more in
+none_there : (bytes : List ℕ) → form_of bytes ≡ None → HasNoMagic bytes
+none_there bytes none form more read split =
+    let found : Some form ≡ None = sym (ap form_of split ∙ magic_front form more read) ∙ none in
     absurd cc
 
 pub read_captures_spelled : ReadIsSpelled
 read_captures_spelled bytes all =
-    elim (cases_Bool (is_little_micro bytes)) [
-      | inl found ↦
-          let P : Capture → Type 0 = λ c. SpellsIn little_micros bytes c in
-          inl (little_micros, refl, subst P (sym (pcap-form bytes found)) (read_in little_micros bytes all (magic_found bytes all found)))
-      | inr other ↦ inr (none_there bytes other, pcap-magic bytes other)
+    elim (cases_form bytes) [
+      | inl none ↦ inr (none_there bytes none, pcap-magic bytes none)
+      | inr (form, told) ↦
+          let k = magic_found form bytes all told in
+          let P : Capture → Type 0 = λ c. SpellsIn form bytes c in
+          inl (form, k.0, subst P (sym (pcap-form form bytes told)) (read_in form bytes all k.1))
     ]

@@ -1,9 +1,9 @@
 -- How the list of records goes on.
-use Rattle.std.proofs.Common.{◌≡◌, ℕ, true, false, zero, suc, ◌+◌, ◌<◌, ◌≤◌, List, [], ◌∷◌, length, drop, refl, ap, ◌∙◌, arith}
+use Rattle.std.proofs.Common.{◌≡◌, ℕ, Some, None, zero, suc, ◌+◌, ◌<◌, ◌≤◌, List, [], ◌∷◌, length, drop, refl, ap, ◌∙◌, arith}
 use Rattle.std.proofs.lemmas.Bool.{le-ltb, lt-ltb, eq-eqb, ne_eqb}
 use Rattle.cd_packet.specs.Magic.{has_magic}
 use Rattle.cd_packet.specs.Capture.{ends, refused_capture, after}
-use Rattle.cd_pcap.specs.Pcap.{Form, little_micros, version, link_type, captured_length, is_little_micro, packet_at, records, pcap_in, pcap}
+use Rattle.cd_pcap.specs.Pcap.{Form, form_of, version, link_type, captured_length, packet_at, records, pcap_in, pcap}
 use Rattle.cd_packet.specs.declared.capture.EndState.TheVariants.{Whole, Cut}
 use Rattle.cd_packet.specs.declared.capture.CaptureWhy.TheVariants.{Magic, Version, Record}
 
@@ -75,28 +75,28 @@ pub pcap_in-records : (form : Form) (bytes : List ℕ) → 24 ≤ length bytes �
 unfolding pcap_in
 pcap_in-records form bytes h two = rw (le-ltb (length bytes) 24 h, eq-eqb (version form bytes) 2 two) refl
 
-pub pcap-magic : (bytes : List ℕ) → is_little_micro bytes ≡ false → pcap bytes ≡ refused_capture 0 Magic
+pub pcap-magic : (bytes : List ℕ) → form_of bytes ≡ None → pcap bytes ≡ refused_capture 0 Magic
 unfolding pcap
 pcap-magic bytes other = rw other refl
 
 -- the magic tells the form
-pub pcap-form : (bytes : List ℕ) → is_little_micro bytes ≡ true → pcap bytes ≡ pcap_in little_micros bytes
+pub pcap-form : (form : Form) (bytes : List ℕ) → form_of bytes ≡ Some form → pcap bytes ≡ pcap_in form bytes
 unfolding pcap
-pcap-form bytes magic = rw magic refl
+pcap-form form bytes magic = rw magic refl
 
-pub pcap-short : (bytes : List ℕ) → is_little_micro bytes ≡ true → length bytes < 24 → pcap bytes ≡ ends Cut
-pcap-short bytes magic h = pcap-form bytes magic ∙ pcap_in-short little_micros bytes h
+pub pcap-short : (form : Form) (bytes : List ℕ) → form_of bytes ≡ Some form → length bytes < 24 → pcap bytes ≡ ends Cut
+pcap-short form bytes magic h = pcap-form form bytes magic ∙ pcap_in-short form bytes h
 
-pub pcap-version : (bytes : List ℕ) → is_little_micro bytes ≡ true → 24 ≤ length bytes → (version little_micros bytes ≡ 2 → ⊥) → pcap bytes ≡ refused_capture 0 Version
-pcap-version bytes magic h other = pcap-form bytes magic ∙ pcap_in-version little_micros bytes h other
+pub pcap-version : (form : Form) (bytes : List ℕ) → form_of bytes ≡ Some form → 24 ≤ length bytes → (version form bytes ≡ 2 → ⊥) → pcap bytes ≡ refused_capture 0 Version
+pcap-version form bytes magic h other = pcap-form form bytes magic ∙ pcap_in-version form bytes h other
 
-pub pcap-records : (bytes : List ℕ) → is_little_micro bytes ≡ true → 24 ≤ length bytes → version little_micros bytes ≡ 2 →
-    pcap bytes ≡ records little_micros (link_type little_micros bytes) 0 24 (drop 24 bytes)
-pcap-records bytes magic h two = pcap-form bytes magic ∙ pcap_in-records little_micros bytes h two
+pub pcap-records : (form : Form) (bytes : List ℕ) → form_of bytes ≡ Some form → 24 ≤ length bytes → version form bytes ≡ 2 →
+    pcap bytes ≡ records form (link_type form bytes) 0 24 (drop 24 bytes)
+pcap-records form bytes magic h two = pcap-form form bytes magic ∙ pcap_in-records form bytes h two
 
 -- no byte is no capture
 pub pcap-none : pcap [] ≡ refused_capture 0 Magic
-unfolding pcap has_magic
+unfolding pcap form_of has_magic
 pcap-none = refl
 
 pub ruleset pcap_laws = (pcap-magic, pcap-short, pcap-version, pcap-records)

@@ -1,13 +1,14 @@
 -- The packets of a capture take of its bytes at least the captured ones, and 16 more for each.
 use Rattle.std.proofs.Common.{◌≡◌, ℕ, zero, suc, ◌+◌, ◌-◌, ◌≤◌, List, [], ◌∷◌, length, drop, arith, subst, refl, sym, inl, inr}
 use Rattle.std.specs.List.{sum_by}
-use Rattle.std.proofs.lemmas.Bool.{cases_lt, cases_eq, cases_Bool}
+use Rattle.std.proofs.lemmas.Bool.{cases_lt, cases_eq}
 use Rattle.std.proofs.lemmas.List.{length-drop, length-take}
 use Rattle.std.proofs.lemmas.List.Sums.{sum_by-cons}
 use Rattle.cd_packet.specs.Capture.{Capture, after}
 use Rattle.cd_packet.specs.declared.packet.Packet.{Packet}
 use Rattle.cd_pcap.specs.Laws.{record_size}
-use Rattle.cd_pcap.specs.Pcap.{Form, little_micros, version, link_type, captured_length, is_little_micro, records, pcap}
+use Rattle.cd_pcap.specs.Pcap.{Form, version, link_type, captured_length, records, pcap}
+use Rattle.cd_pcap.proofs.Forms.{cases_form}
 use Rattle.cd_pcap.proofs.Records.{records-short, records-refused, records-cut, records-first, pcap-magic, pcap-short, pcap-version, pcap-records}
 
 -- the packets of a capture take at most so many bytes
@@ -60,15 +61,15 @@ records_size form link zero at (b ∷ bytes) =
 -- a capture
 captures_have_size : (bytes : List ℕ) → HaveSize (length bytes) (pcap bytes)
 captures_have_size bytes =
-    elim (cases_Bool (is_little_micro bytes)) [
-      | inr other ↦ size_at _ _ _ (pcap-magic bytes other) (no_size _ _ refl)
-      | inl magic ↦ elim (cases_lt (length bytes) 24) [
-        | inl short ↦ size_at _ _ _ (pcap-short bytes magic short) (no_size _ _ refl)
-        | inr long ↦ elim (cases_eq (version little_micros bytes) 2) [
-          | inr three ↦ size_at _ _ _ (pcap-version bytes magic long three) (no_size _ _ refl)
+    elim (cases_form bytes) [
+      | inl none ↦ size_at _ _ _ (pcap-magic bytes none) (no_size _ _ refl)
+      | inr (form, magic) ↦ elim (cases_lt (length bytes) 24) [
+        | inl short ↦ size_at _ _ _ (pcap-short form bytes magic short) (no_size _ _ refl)
+        | inr long ↦ elim (cases_eq (version form bytes) 2) [
+          | inr three ↦ size_at _ _ _ (pcap-version form bytes magic long three) (no_size _ _ refl)
           | inl two ↦
-              let k = records_size little_micros (link_type little_micros bytes) 0 24 (drop 24 bytes) in
-              size_at _ _ _ (pcap-records bytes magic long two) (more_size _ _ _ k (omega (arith, length-drop 24 bytes)))
+              let k = records_size form (link_type form bytes) 0 24 (drop 24 bytes) in
+              size_at _ _ _ (pcap-records form bytes magic long two) (more_size _ _ _ k (omega (arith, length-drop 24 bytes)))
         ]
       ]
     ]

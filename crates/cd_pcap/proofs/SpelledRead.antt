@@ -1,5 +1,5 @@
 -- What some bytes spell is what is read of them.
-use Rattle.std.proofs.Common.{◌≡◌, ℕ, Bool, true, false, nat_lt, nat_eq, if◌then◌else◌, All, ◌+◌, ◌%◌, ◌^◌, ◌<◌, ◌≤◌, List, [], ◌∷◌, ◌++◌, length, take, drop, refl, ap, sym, ◌∙◌, arith, subst, inl, inr, append_assoc, length-append}
+use Rattle.std.proofs.Common.{◌≡◌, ℕ, Bool, true, false, nat_lt, nat_eq, if◌then◌else◌, All, ◌+◌, ◌%◌, ◌^◌, ◌<◌, ◌≤◌, List, [], ◌∷◌, ◌++◌, Some, None, length, take, drop, refl, ap, sym, ◌∙◌, arith, subst, inl, inr, append_assoc, length-append}
 use Rattle.std.specs.Int.{w16, w32}
 use Rattle.std.specs.List.{AllByRecursion}
 use Rattle.std.proofs.lemmas.Bool.{cases_Bool, le-ltb, ltb-false, eqb-true}
@@ -15,9 +15,10 @@ use Rattle.cd_packet.specs.declared.capture.EndState.{EndState}
 use Rattle.cd_packet.specs.declared.capture.EndState.TheVariants.{Whole, Cut, Bad}
 use Rattle.cd_packet.specs.declared.capture.BadCapture.{BadCapture}
 use Rattle.cd_packet.specs.Magic.{has_magic}
-use Rattle.cd_pcap.specs.Pcap.{Form, little_micros, version, link_type, captured_length, is_little_micro, records, pcap_in, pcap}
+use Rattle.cd_pcap.specs.Pcap.{Form, little_micros, is_little_micro, form_of, version, link_type, captured_length, records, pcap_in, pcap}
 use Rattle.cd_pcap.specs.Spelled.{RawHeader, HeaderFits, RawRecord, Fits, magic_number, magic, header, spelling_of, spellings, packet_of_raw, packets_of, BeginsRecord, IsRest, SpellsRecords, SpellsAfterHeader, SpellsIn, IsRead, HasNoMagic}
 use Rattle.cd_pcap.specs.Laws.{SpelledIsRead}
+use Rattle.cd_pcap.proofs.Forms.{cases_form, form_of-little_micro, form_of-other}
 use Rattle.cd_pcap.proofs.Records.{records-none, records-short, records-refused, records-cut, pcap_in-short, pcap_in-version, pcap_in-records, pcap-magic, pcap-form}
 use Rattle.cd_pcap.proofs.Spelled.{four, third, four_long, header_four, spelled_read}
 
@@ -166,16 +167,20 @@ form_read form bytes c (inr (inr (other, is))) =
     ) in
     pcap_in-version form bytes long (λ two. other.other (sym says ∙ two)) ∙ sym is
 
--- the magic that is read is at the front
-pub magic_front : (more : List ℕ) → is_little_micro (magic little_micros ++ more) ≡ true
+-- the magic of little-endian order and microseconds is found at the front
+little_micro_front : (more : List ℕ) → is_little_micro (magic little_micros ++ more) ≡ true
 unfolding has_magic le32
-magic_front more = rw (le-ltb (length (magic little_micros ++ more)) 4 (omega arith)) refl
+little_micro_front more = rw (le-ltb (length (magic little_micros ++ more)) 4 (omega arith)) refl
+
+-- the magic of a form that is read tells it
+pub magic_front : (form : Form) (more : List ℕ) → IsRead form → form_of (magic form ++ more) ≡ Some form
+magic_front form more read =
+    ap (λ (f : Form). form_of (magic f ++ more)) read
+    ∙ form_of-little_micro (magic little_micros ++ more) (little_micro_front more) ∙ ap (λ (f : Form). Some f) (sym read)
 
 -- what is spelled is in one form
 spelled_form : (form : Form) (bytes : List ℕ) → IsRead form → (more : List ℕ) → bytes ≡ magic form ++ more → pcap bytes ≡ pcap_in form bytes
-spelled_form form bytes read more split =
-    let is : bytes ≡ magic little_micros ++ more = split ∙ ap (λ (f : Form). magic f ++ more) read in
-    pcap-form bytes (ap is_little_micro is ∙ magic_front more) ∙ ap (λ (f : Form). pcap_in f bytes) (sym read)
+spelled_form form bytes read more split = pcap-form form bytes (ap form_of split ∙ magic_front form more read)
 
 -- each spelling begins with the magic
 begins_magic : (form : Form) (bytes : List ℕ) (c : Capture) → SpellsIn form bytes c → (more : List ℕ) × (bytes ≡ magic form ++ more)
@@ -195,20 +200,31 @@ told true same h = absurd cc
 told false same h = (refl, h)
 
 -- the magic that is found is at the front
-pub magic_found : (bytes : List ℕ) → All (λ byte. byte < 256) bytes → is_little_micro bytes ≡ true → bytes ≡ magic little_micros ++ drop 4 bytes
+little_micro_found : (bytes : List ℕ) → All (λ byte. byte < 256) bytes → is_little_micro bytes ≡ true → bytes ≡ magic little_micros ++ drop 4 bytes
 unfolding has_magic
-magic_found bytes all found =
+little_micro_found bytes all found =
     let k = told (nat_lt (length bytes) 4) (nat_eq (le32 0 bytes) 0xa1b2c3d4) found in
     let number : le32 0 bytes ≡ 0xa1b2c3d4 = eqb-true (le32 0 bytes) 0xa1b2c3d4 k.1 in
     let front : bytes_of w32 Little (number32_at Little 0 bytes) ≡ take 4 bytes = number32-spelled Little bytes all (ltb-false (length bytes) 4 k.0) in
     sym (take-append-drop 4 bytes) ∙ ap (λ t. t ++ drop 4 bytes) (sym front ∙ ap (λ n. bytes_of w32 Little n) number)
 
--- no magic is at the front
-none_found : (bytes : List ℕ) → All (λ byte. byte < 256) bytes → HasNoMagic bytes → is_little_micro bytes ≡ false
-none_found bytes all none =
+-- a form that is told is read, and its magic is at the front
+pub magic_found : (form : Form) (bytes : List ℕ) → All (λ byte. byte < 256) bytes → form_of bytes ≡ Some form →
+    IsRead form × (bytes ≡ magic form ++ drop 4 bytes)
+magic_found form bytes all says =
     elim (cases_Bool (is_little_micro bytes)) [
-      | inl found ↦ absurd (none little_micros (drop 4 bytes) refl (magic_found bytes all found))
-      | inr other ↦ other
+      | inl found ↦
+          let is : form ≡ little_micros = let same = sym says ∙ form_of-little_micro bytes found in cc in
+          (is, little_micro_found bytes all found ∙ ap (λ (f : Form). magic f ++ drop 4 bytes) (sym is))
+      | inr other ↦ let no : Some form ≡ None = sym says ∙ form_of-other bytes other in absurd cc
+    ]
+
+-- no magic is at the front
+none_found : (bytes : List ℕ) → All (λ byte. byte < 256) bytes → HasNoMagic bytes → form_of bytes ≡ None
+none_found bytes all none =
+    elim (cases_form bytes) [
+      | inl other ↦ other
+      | inr (form, says) ↦ let k = magic_found form bytes all says in absurd (none form (drop 4 bytes) k.0 k.1)
     ]
 
 pub spelled_captures_read : SpelledIsRead

@@ -1,6 +1,6 @@
 -- What a pcap capture holds, as one function of all its bytes (the pcap draft, 4 and 5).
 use Rattle.std.specs.Prelude.{ℕ, zero, suc, ◌+◌, ◌*◌, ◌%◌, nat_lt, nat_eq, Bool, List, [], ◌∷◌, length, take, drop}
-use Rattle.std.specs.Prelude.{if◌then◌else◌}
+use Rattle.std.specs.Prelude.{if◌then◌else◌, Option, Some, None}
 use Rattle.cd_packet.specs.declared.packet.Packet.{Packet}
 use Rattle.cd_packet.specs.declared.capture.EndState.TheVariants.{Whole, Cut}
 use Rattle.cd_packet.specs.declared.capture.CaptureWhy.TheVariants.{Magic, Version, Record}
@@ -23,6 +23,10 @@ little_micros = record { order = Little; unit = 1000 }
 -- the first four bytes are d4 c3 b2 a1, the magic of this form
 abbrev pub is_little_micro : List ℕ → Bool
 is_little_micro bytes = has_magic 0xa1b2c3d4 bytes
+
+-- the form that these first bytes tell: so far little-endian order with microseconds alone is read
+unfoldable pub form_of : List ℕ → Option Form
+form_of bytes = if is_little_micro bytes then Some little_micros else None
 
 -- the major version of a header
 abbrev pub version : Form → List ℕ → ℕ
@@ -74,6 +78,11 @@ pcap_in form bytes =
     else (if nat_eq (version form bytes) 2 then records form (link_type form bytes) 0 24 (drop 24 bytes)
     else refused_capture 0 Version)
 
--- the capture: its magic tells the form, which so far is read in little-endian order with microseconds alone
+-- a capture in this form, or in none that is read
+abbrev pub pcap_of : Option Form → List ℕ → Capture
+pcap_of None bytes = refused_capture 0 Magic
+pcap_of (Some form) bytes = pcap_in form bytes
+
+-- the capture, in the form that its magic tells
 unfoldable pub pcap : List ℕ → Capture
-pcap bytes = if is_little_micro bytes then pcap_in little_micros bytes else refused_capture 0 Magic
+pcap bytes = pcap_of (form_of bytes) bytes

@@ -30,12 +30,14 @@ pub struct PcapReader {
 }
 
 impl Model for PcapReader {
+    ghost use Rattle.cd_pcap.specs.Pcap.{little_micros};
     ghost use Rattle.cd_pcap.specs.Reading.{Kept, AreWhole};
     ghost use Rattle.std.specs.Prelude.{◌+◌, ◌-◌, ◌≤◌, ◌^◌, take, drop, length};
 
     ghost Value = { Kept };
 
     ghost view = { λ r. record {
+      form = little_micros;
       fed_count = r.fed_count;
       held = drop r.start r.bytes.items;
       at = r.at;
@@ -48,7 +50,7 @@ impl Model for PcapReader {
       within : r.start + r.whole ≤ length r.bytes.items;
       counted : r.at + (length r.bytes.items - r.start) ≤ r.fed_count;
       few : r.fed_count ≤ 2 ^ 48;
-      marked : AreWhole r.link r.at (take r.whole (drop r.start r.bytes.items));
+      marked : AreWhole little_micros r.link r.at (take r.whole (drop r.start r.bytes.items));
     } };
 }
 

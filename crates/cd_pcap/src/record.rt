@@ -60,7 +60,7 @@ pub struct Records {
 
 /// What stands at the front of these first bytes of a capture (the pcap draft, 4).
 pub fn header_of(bytes: &[u8]) -> Header
-    ensures { HeaderIs bytes.now result }
+    ensures { HeaderIs little_micros bytes.now result }
 {
     if bytes.len() < MAGIC_SIZE {
         return Header::Open;
@@ -86,7 +86,7 @@ pub fn header_of(bytes: &[u8]) -> Header
 
 // What stands at the front of these bytes after the header, at this offset (the pcap draft, 5).
 fn front_of(at: u64, bytes: &[u8]) -> Front
-    ensures { FrontIs at bytes.now result }
+    ensures { FrontIs little_micros at bytes.now result }
 {
     if bytes.len() < RECORD_HEADER {
         return Front::Open;
@@ -107,7 +107,7 @@ fn front_of(at: u64, bytes: &[u8]) -> Front
 /// The whole records at the front of these bytes after the header, at this offset.
 pub fn whole_records(at: u64, bytes: &[u8]) -> Records
     requires { at + length bytes.now ≤ 2 ^ 48 }
-    ensures { RecordsAre at bytes.now result }
+    ensures { RecordsAre little_micros at bytes.now result }
 {
     let mut size = 0;
     'records: loop {

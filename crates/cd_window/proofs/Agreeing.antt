@@ -1,21 +1,24 @@
 -- Which keys two events have in common that agree in what identifies an exchange.
-use Rattle.std.proofs.Common.{◌≡◌, ℕ, Bool, true, false, ◌&&◌, ◌||◌, List, filter, map, Option, Some, None, refl, ap, sym, ◌∙◌}
+use Rattle.std.proofs.Common.{◌≡◌, ℕ, Bool, true, false, ◌&&◌, ◌||◌, List, filter, map, Option, Some, None, refl, ap, sym, ◌∙◌, subst}
 use Rattle.std.specs.Prelude.{IsSome, IfSome, is_none, nat_eq, slice_get}
 use Rattle.std.specs.Option.{option_eq, option_map}
 use Rattle.std.specs.Cmp.Lexicographic.{pointwise, nat_list_eq_equiv}
 use Rattle.std.proofs.lemmas.Bool.{both_ways}
+use Rattle.cd_pairing.specs.declared.keyed.Side.{Side}
+use Rattle.cd_pairing.specs.declared.keyed.Windows.{Windows}
 use Rattle.cd_pairing.specs.Events.{secondaries_agree}
 use Rattle.cd_chain.specs.Cells.{is_in}
 use Rattle.cd_chain.specs.Contents.{Contents, value_at}
+use Rattle.cd_window.specs.declared.stamps.Stamp.{Stamp}
 use Rattle.cd_window.specs.declared.waiter.Waiter.{Waiter}
 use Rattle.cd_window.specs.declared.waiting.Waiting.{Waiting}
 use Rattle.cd_window.specs.Keys.{same_key, secondary_of}
-use Rattle.cd_window.specs.Waiting.{waits_of, agrees_with, AreRising, agreeing, but_at}
-use Rattle.cd_window.specs.Lists.{key_is, has_key, those, slots_in, shown, waits_in_slot, waits_in, Removes, agrees_in_slot, earlier_slot}
+use Rattle.cd_window.specs.Waiting.{Waits, waits_of, waits_still, agrees_with, AreRising, agreeing, but_at}
+use Rattle.cd_window.specs.Lists.{key_is, has_key, those, slots_in, shown, waits_in_slot, still_in_slot, open_of, waits_in, IsListed, Removes, agrees_in_slot, earlier_slot}
 use Rattle.cd_window.proofs.Conjunctions.{and_true}
 use Rattle.cd_window.proofs.Putting.{none_is}
-use Rattle.cd_window.proofs.Sublists.{filter_same, first_is}
-use Rattle.cd_window.proofs.Waits.{first_either, agreeing_slot, gone_waits}
+use Rattle.cd_window.proofs.Sublists.{filter_same, was_in, first_is}
+use Rattle.cd_window.proofs.Waits.{rising_filter, filter_map_is, first_either, agreeing_slot, gone_waits}
 
 secondary_none : (o : Option (List ℕ)) → secondaries_agree o None ≡ true
 secondary_none None = refl
@@ -90,18 +93,31 @@ pub first_used : (it : Contents Waiter) (p : ℕ → Bool) (slots : List ℕ) �
 first_used it p slots used None e = tt
 first_used it p slots used (Some s) e = used s (first_is p slots s (sym e)).0
 
--- what is left when the first event that agrees is taken
-pub record TakesAgreeing (x x' : Waiting) (w : Waiter) (position : ℕ) : Type 0 where
-  pub found : Some position ≡ agreeing (waits_of w) (waits_in x)
-  pub left : waits_in x' ≡ but_at position (waits_in x)
+-- of the slots in use, those whose events wait still
+module _ (windows : Windows) (side : Side) (now : Stamp) (x : Waiting) where
+  pub open_used : IsListed x → (s : ℕ) → is_in s (open_of windows side now x.store (slots_in x)) ≡ true → IsSome (value_at x.store s)
+  open_used L s i = L.used s (was_in (still_in_slot windows side now x.store) (slots_in x) s i).0
 
-pub takes_agreeing : (x x' : Waiting) (w taken : Waiter) (slot : ℕ) → Some slot ≡ slice_get (filter (agrees_in_slot x.store (waits_of w)) (slots_in x)) 0 → AreRising (waits_in x) → Removes x x' slot → value_at x.store slot ≡ Some taken → TakesAgreeing x x' w taken.position
-takes_agreeing x x' w taken slot e r R v =
-    let i = (first_is (agrees_in_slot x.store (waits_of w)) (slots_in x) slot (sym e)).0 in
-    let at : (waits_in_slot x.store slot).index ≡ taken.position = ap (λ (o : Option Waiter). (shown o).index) v in
-    record {
-      found = sym (agreeing_slot (waits_of w) (waits_in_slot x.store) (slots_in x) (Some slot) e ∙ ap (λ (n : ℕ). Some n) at);
-      left = ap (map (waits_in_slot x'.store)) R.slots
-          ∙ gone_waits (waits_in_slot x.store) (waits_in_slot x'.store) slot (slots_in x) i r (λ t ne. ap shown (R.others t ne))
-          ∙ ap (λ (n : ℕ). but_at n (waits_in x)) at;
-    }
+  -- they hold the events that wait still
+  pub open_waits : map (waits_in_slot x.store) (open_of windows side now x.store (slots_in x)) ≡ filter (waits_still windows side now) (waits_in x)
+  open_waits = sym (filter_map_is (waits_still windows side now) (waits_in_slot x.store) (slots_in x))
+
+  pub open_rising : AreRising (waits_in x) → AreRising (map (waits_in_slot x.store) (open_of windows side now x.store (slots_in x)))
+  open_rising r = subst AreRising (sym open_waits) (rising_filter (waits_still windows side now) (waits_in x) r)
+
+  -- the first slot that agrees, if any, has the first event that agrees
+  pub found_agreeing : (a : Waits) (o : Option ℕ) → o ≡ slice_get (filter (agrees_in_slot x.store a) (open_of windows side now x.store (slots_in x))) 0 →
+      agreeing a (filter (waits_still windows side now) (waits_in x)) ≡ option_map (λ s. (waits_in_slot x.store s).index) o
+  found_agreeing a o e = ap (agreeing a) (sym open_waits) ∙ agreeing_slot a (waits_in_slot x.store) (open_of windows side now x.store (slots_in x)) o e
+
+  -- it is one of all slots
+  pub agreeing_in : (a : Waits) (slot : ℕ) → Some slot ≡ slice_get (filter (agrees_in_slot x.store a) (open_of windows side now x.store (slots_in x))) 0 → is_in slot (slots_in x) ≡ true
+  agreeing_in a slot e = (was_in (still_in_slot windows side now x.store) (slots_in x) slot
+      (first_is (agrees_in_slot x.store a) (open_of windows side now x.store (slots_in x)) slot (sym e)).0).0
+
+-- what is left when an event is taken
+pub left_without : (x x' : Waiting) (taken : Waiter) (slot : ℕ) → is_in slot (slots_in x) ≡ true → AreRising (waits_in x) → Removes x x' slot → value_at x.store slot ≡ Some taken → waits_in x' ≡ but_at taken.position (waits_in x)
+left_without x x' taken slot i r R v =
+    ap (map (waits_in_slot x'.store)) R.slots
+    ∙ gone_waits (waits_in_slot x.store) (waits_in_slot x'.store) slot (slots_in x) i r (λ t ne. ap shown (R.others t ne))
+    ∙ ap (λ (o : Option Waiter). but_at (shown o).index (waits_in x)) v

@@ -1,7 +1,7 @@
 -- What waits once the next event is held, and once a record is popped.
 use Rattle.std.proofs.Common.{◌≡◌, ℕ, ◌+◌, ◌≤◌, Bool, true, false, not, ◌&&◌, eqb, List, [], ◌∷◌, ◌++◌, length, set, cond, filter, Option, Some, None, refl, ap, sym, ◌∙◌, subst, arith, inl, inr}
 use Rattle.std.specs.Prelude.{is_none}
-use Rattle.std.proofs.lemmas.Bool.{cases_Bool, cases_eq, ne_eqb, true≢false, and_parts, false_from_ne_true}
+use Rattle.std.proofs.lemmas.Bool.{cases_Bool, cases_eq, ne_eqb, true≢false, and_parts}
 use Rattle.std.proofs.lemmas.List.{append-nil}
 use Rattle.std.proofs.lemmas.List.Elements.{filter-append}
 use Rattle.cd_pairing.specs.declared.keyed.Side.{Side}
@@ -15,7 +15,7 @@ use Rattle.cd_window.specs.Seen.{Seen, count_of, stamped, waits_after}
 use Rattle.cd_window.specs.Pushes.{with_partner}
 use Rattle.cd_window.specs.Places.{with_stamp, place_at, place_fits, HoldsNext, held_next}
 use Rattle.cd_window.specs.Waiting.{Waits, waits_with, waits_at, same_side, waits_from, waiting, waits_still, but_at, left_of, joined_by}
-use Rattle.cd_window.specs.Joining.{before_next, after_next, Meets, Joins}
+use Rattle.cd_window.specs.Joining.{after_next, Meets, Joins}
 use Rattle.cd_window.proofs.Conjunctions.{and_false, and_other, swap_last}
 use Rattle.cd_window.proofs.Picking.{waits_filter, waits_same, waits_push, waits_set}
 use Rattle.cd_window.proofs.Partners.{side_is, still_sooner, FoundAt, Found}
@@ -60,39 +60,6 @@ filter_narrow_but {E} view windows a b side i n hs hi hc hs' =
     ∙ waits_filter view (waits_still windows side b) (λ j h. waits_by view windows a side j h && not (eqb j n)) i hs
     ∙ waits_same view (λ j h. waits_by view windows a side j h && not (eqb j n) && waits_still windows side b (waits_at view j h)) (λ j h. waits_by view windows b side j h && not (eqb j n)) i hs
     (λ k j h e at. swap_last (waits_by view windows a side j h) (waits_still windows side b (waits_at view j h)) (not (eqb j n)) ∙ ap (λ (t : Bool). t && not (eqb j n)) (narrow view windows a b side j h hi hc hs'))
-
--- a filter that is wider changes nothing
-filter_wider : (p q : Waits → Bool) → ((x : Waits) → p x ≡ true → q x ≡ true) → (xs : List Waits) → filter p (filter q xs) ≡ filter p xs
-filter_wider p q h [] = refl
-filter_wider p q h (x ∷ xs) =
-    let r = filter_wider p q h xs in
-    elim (cases_Bool (q x)) [
-      | inl e ↦ rw e (ap (λ (ys : List Waits). cond (p x) (x ∷ ys) ys) r)
-      | inr e ↦
-          let f : p x ≡ false = false_from_ne_true (p x) (λ t. true≢false (sym (h x t) ∙ e)) in
-          rw (e, f) r
-    ]
-
-filter_between : (p m q : Waits → Bool) → ((x : Waits) → p x ≡ true → q x ≡ true) → (xs : List Waits) → filter p (filter m (filter q xs)) ≡ filter p (filter m xs)
-filter_between p m q h [] = refl
-filter_between p m q h (x ∷ xs) =
-    let r = filter_between p m q h xs in
-    elim (cases_Bool (q x)) [
-      | inl e ↦ elim (cases_Bool (m x)) [
-        | inl t ↦ rw (e, t) (ap (λ (ys : List Waits). cond (p x) (x ∷ ys) ys) r)
-        | inr t ↦ rw (e, t) r
-      ]
-      | inr e ↦
-          let f : p x ≡ false = false_from_ne_true (p x) (λ t. true≢false (sym (h x t) ∙ e)) in
-          elim (cases_Bool (m x)) [
-            | inl t ↦ rw (e, t, f) r
-            | inr t ↦ rw (e, t) r
-          ]
-    ]
-
-left_wider : (p q : Waits → Bool) → ((x : Waits) → p x ≡ true → q x ≡ true) → (met : Option ℕ) (xs : List Waits) → filter p (left_of met (filter q xs)) ≡ filter p (left_of met xs)
-left_wider p q h None xs = filter_wider p q h xs
-left_wider p q h (Some i) xs = filter_between p (λ x. not (eqb x.index i)) q h xs
 
 opposite_apart : (a b : Side) → are_opposite a b ≡ true → same_side a b ≡ false
 opposite_apart Query Response h = refl
@@ -216,10 +183,6 @@ other_waits {E} view w e next met new side N count F H apart = elim F [
       ∙ sym grown_is
 ]
 
--- who waits by the stamp after the next event waited by the one before
-after_before : (windows : Windows) (side : Side) (next : Stamp) (x : Waits) → waits_still windows side (after_next next) x ≡ true → waits_still windows side (before_next next) x ≡ true
-after_before windows side next x h = still_sooner windows side (before_next next) (after_next next) x (omega arith) (omega arith) (omega arith) h
-
 pub record Waited {E : Type 0} (view : E → EventView) (w : Seen E) (queries responses : List Waits) : Type 0 where
   pub queries_are : queries ≡ waiting view w Query
   pub responses_are : responses ≡ waiting view w Response
@@ -239,8 +202,7 @@ joins_wait {E} view w e next met new queries responses N count F H J = by (view 
         record {
           queries_are = M.own_left ∙ subst (λ (s : Side). filter (waits_still w.windows s (after_next next)) (joined_by met (waits_with (view e) next.index next.clock next.weight_sum) (waiting view w s)) ≡ waiting view (grown w next new) s) (sym q)
               (own_waits view w e next met new N count F H (ap (λ (s : Side). same_side s s) (sym q)));
-          responses_are = M.others_left ∙ left_wider (waits_still w.windows Response (after_next next)) (waits_still w.windows Response (before_next next)) (after_before w.windows Response next) met (waiting view w Response)
-              ∙ other_waits view w e next met new Response N count F H (ap (λ (s : Side). same_side s Response) (sym q));
+          responses_are = M.others_left ∙ other_waits view w e next met new Response N count F H (ap (λ (s : Side). same_side s Response) (sym q));
         }
     by Response q =
         let M : Meets w.windows Response Query (waits_with (view e) next.index next.clock next.weight_sum) next met (waiting view w Response) (waiting view w Query) responses queries =
@@ -248,8 +210,7 @@ joins_wait {E} view w e next met new queries responses N count F H J = by (view 
         record {
           responses_are = M.own_left ∙ subst (λ (s : Side). filter (waits_still w.windows s (after_next next)) (joined_by met (waits_with (view e) next.index next.clock next.weight_sum) (waiting view w s)) ≡ waiting view (grown w next new) s) (sym q)
               (own_waits view w e next met new N count F H (ap (λ (s : Side). same_side s s) (sym q)));
-          queries_are = M.others_left ∙ left_wider (waits_still w.windows Query (after_next next)) (waits_still w.windows Query (before_next next)) (after_before w.windows Query next) met (waiting view w Query)
-              ∙ other_waits view w e next met new Query N count F H (ap (λ (s : Side). same_side s Query) (sym q));
+          queries_are = M.others_left ∙ other_waits view w e next met new Query N count F H (ap (λ (s : Side). same_side s Query) (sym q));
         }
     by Neither q =
         let M = subst (λ (s : Side). Joins w.windows s (waits_with (view e) next.index next.clock next.weight_sum) next met (waiting view w Query) (waiting view w Response) queries responses) (sym q) J in

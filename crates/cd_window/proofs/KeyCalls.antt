@@ -39,8 +39,8 @@ module _ {S : Type 0} (m m' : IndexMap Key ℕ S) (it it' : Contents Waiter) (la
   added_filled slots other same en D A F = fewer_filled (number_of m') (list_at it' lane) (λ k. same_key key k) (λ k. same_key other k) (λ k h. same_key_laws.congr key other k same ∙ h)
       (filled_more (number_of m) (list_at it lane) (has_key it lane) same_key (keys_are m it lane) slots n key (number_of m') (list_at it' lane) A D.fresh en (adds_lane it it' lane n D) F)
 
-  pub added_number : (other : Key) → same_key key other ≡ true → ((k : Key) → number_of m' k ≡ cond (same_key key k) (Some n) (number_of m k)) → IsSome (number_of m' other)
-  added_number other same en = subst (λ (o : Option ℕ). IsSome o) (sym (en other ∙ cond-true (same_key key other) (Some n) (number_of m other) same)) refl
+  pub added_number : (other : Key) → same_key key other ≡ true → ((k : Key) → number_of m' k ≡ cond (same_key key k) (Some n) (number_of m k)) → number_of m' other ≡ Some n
+  added_number other same en = en other ∙ cond-true (same_key key other) (Some n) (number_of m other) same
 
 -- a list was added and dropped again
 module _ {S : Type 0} (m m' : IndexMap Key ℕ S) (it mid it' : Contents Waiter) (lane n : ℕ) (same : m'.entries ≡ m.entries) (A : AddsList it mid lane n) (D : DropsList mid it' lane n) where

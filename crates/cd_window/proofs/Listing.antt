@@ -7,18 +7,19 @@ use Rattle.std.proofs.lemmas.List.{length_push, map_push}
 use Rattle.indexmap.specs.IndexMap.{IndexMap}
 use Rattle.cd_chain.specs.Cells.{is_in, AreDistinct}
 use Rattle.cd_chain.specs.Chains.{without}
-use Rattle.cd_chain.specs.Lists.{gone_from, put_in, put_last_in}
+use Rattle.cd_chain.specs.Lists.{gone_from, put_in}
 use Rattle.cd_chain.specs.Contents.{Contents, value_at, used_slots, list_at, list_count, slots_of}
 use Rattle.cd_chain.specs.Calls.{ChangesLists, KeepsLists, KeepsValues, PutsValue, TakesValue}
 use Rattle.cd_chain.proofs.Linking.{head_in, tail_in, without_none, in_without, distinct_without, in_push, distinct_push}
 use Rattle.cd_window.specs.declared.key.Key.{Key}
 use Rattle.cd_window.specs.declared.waiter.Waiter.{Waiter}
+use Rattle.cd_window.specs.declared.waiting.Room.{Room}
 use Rattle.cd_window.specs.declared.waiting.Waiting.{Waiting}
 use Rattle.cd_window.specs.Keys.{same_key}
 use Rattle.cd_window.specs.Waiting.{Waits, waits_of}
 use Rattle.cd_window.specs.Lists.{key_in, key_is, has_key, number_of, IsIndexed, IsFilled, but_key, KeepsRest, slots_in, shown, waits_in_slot, waits_in, IsListed, HasNoEmpty, HasRoom, Removes}
 use Rattle.cd_window.proofs.Sublists.{not_in_without, length_without}
-use Rattle.cd_window.proofs.Indexing.{not_none, some_is, same_index, index_without, index_with}
+use Rattle.cd_window.proofs.Indexing.{not_none, same_index, index_without, index_with}
 use Rattle.cd_window.proofs.Filling.{same_filled, filled_without, filled_with, few_lists}
 use Rattle.cd_window.proofs.Keying.{same_key_laws, keys_are}
 
@@ -163,15 +164,10 @@ slots_put : (k s : ℕ) (o : Option (List ℕ)) → IsSome o → put_in k s k o 
 slots_put k s None h = absurd (both_ways _ refl h)
 slots_put k s (Some xs) h = rw (eq-eqb k k refl) refl
 
-pub put_waits : (x x' : Waiting) (w : Waiter) (slot : ℕ) (primary exchange : Option ℕ) → x'.all ≡ x.all → IsListed x → IsIndexed x.store x'.primaries 1 (slots_in x) → IsIndexed x.store x'.exchanges 2 (slots_in x) →
-    IsFilled x.store x'.primaries 1 (but_key w.alone) → IsFilled x.store x'.exchanges 2 (but_key w.whole) → IsSome (number_of x'.primaries w.alone) → IsSome (number_of x'.exchanges w.whole) →
-    primary ≡ number_of x'.primaries w.alone → exchange ≡ number_of x'.exchanges w.whole → PutsValue x.store x'.store slot w →
-    ((k : ℕ) → list_at x'.store 0 k ≡ put_in x.all slot k (list_at x.store 0 k)) → ((k : ℕ) → list_at x'.store 1 k ≡ put_last_in primary slot k (list_at x.store 1 k)) → ((k : ℕ) → list_at x'.store 2 k ≡ put_last_in exchange slot k (list_at x.store 2 k)) → Put x x' w
-put_waits x x' w slot primary exchange ea L P E FP FE np ne ep ee V l0 l1 l2 =
-    let a = some_is (number_of x'.primaries w.alone) np in
-    let b = some_is (number_of x'.exchanges w.whole) ne in
-    let c1 : (k : ℕ) → list_at x'.store 1 k ≡ put_in a.0 slot k (list_at x.store 1 k) = λ k. l1 k ∙ ap (λ (o : Option ℕ). put_last_in o slot k (list_at x.store 1 k)) (ep ∙ a.1) in
-    let c2 : (k : ℕ) → list_at x'.store 2 k ≡ put_in b.0 slot k (list_at x.store 2 k) = λ k. l2 k ∙ ap (λ (o : Option ℕ). put_last_in o slot k (list_at x.store 2 k)) (ee ∙ b.1) in
+pub put_waits : (x x' : Waiting) (w : Waiter) (slot primary exchange : ℕ) → x'.all ≡ x.all → IsListed x → IsIndexed x.store x'.primaries 1 (slots_in x) → IsIndexed x.store x'.exchanges 2 (slots_in x) →
+    IsFilled x.store x'.primaries 1 (but_key w.alone) → IsFilled x.store x'.exchanges 2 (but_key w.whole) → number_of x'.primaries w.alone ≡ Some primary → number_of x'.exchanges w.whole ≡ Some exchange → PutsValue x.store x'.store slot w →
+    ((k : ℕ) → list_at x'.store 0 k ≡ put_in x.all slot k (list_at x.store 0 k)) → ((k : ℕ) → list_at x'.store 1 k ≡ put_in primary slot k (list_at x.store 1 k)) → ((k : ℕ) → list_at x'.store 2 k ≡ put_in exchange slot k (list_at x.store 2 k)) → Put x x' w
+put_waits x x' w slot primary exchange ea L P E FP FE np ne V l0 l1 l2 =
     let e : list_at x'.store 0 x'.all ≡ Some (slots_in x ++ slot ∷ []) = ap (list_at x'.store 0) ea ∙ l0 x.all ∙ slots_put x.all slot (list_at x.store 0 x.all) L.there in
     let es : slots_in x' ≡ slots_in x ++ slot ∷ [] = ap slots_of e in
     let out : is_in slot (slots_in x) ≡ false = false_from_ne_true (is_in slot (slots_in x)) (λ i. not_none (value_at x.store slot) V.fresh (L.used slot i)) in
@@ -192,13 +188,13 @@ put_waits x x' w slot primary exchange ea L P E FP FE np ne ep ee V l0 l1 l2 =
             let l : length (slots_in x') ≡ length (slots_in x) + 1 = ap length es ∙ length_push (slots_in x) slot in
             omega arith;
         primaries = subst (IsIndexed x'.store x'.primaries 1) (sym es)
-            (index_with (number_of x'.primaries) (list_at x.store 1) (has_key x.store 1) same_key (slots_in x) slot a.0 w.alone (list_at x'.store 1) (has_key x'.store 1) (keys_are x'.primaries x.store 1) out a.1 c1 (λ k t q. ap (key_is 1 k) (others t q)) (λ k. ap (key_is 1 k) here) P);
+            (index_with (number_of x'.primaries) (list_at x.store 1) (has_key x.store 1) same_key (slots_in x) slot primary w.alone (list_at x'.store 1) (has_key x'.store 1) (keys_are x'.primaries x.store 1) out np l1 (λ k t q. ap (key_is 1 k) (others t q)) (λ k. ap (key_is 1 k) here) P);
         exchanges = subst (IsIndexed x'.store x'.exchanges 2) (sym es)
-            (index_with (number_of x'.exchanges) (list_at x.store 2) (has_key x.store 2) same_key (slots_in x) slot b.0 w.whole (list_at x'.store 2) (has_key x'.store 2) (keys_are x'.exchanges x.store 2) out b.1 c2 (λ k t q. ap (key_is 2 k) (others t q)) (λ k. ap (key_is 2 k) here) E);
+            (index_with (number_of x'.exchanges) (list_at x.store 2) (has_key x.store 2) same_key (slots_in x) slot exchange w.whole (list_at x'.store 2) (has_key x'.store 2) (keys_are x'.exchanges x.store 2) out ne l2 (λ k t q. ap (key_is 2 k) (others t q)) (λ k. ap (key_is 2 k) here) E);
       };
       filled = record {
-        primaries = filled_with (number_of x'.primaries) (list_at x.store 1) (has_key x.store 1) same_key (keys_are x'.primaries x.store 1) (slots_in x) slot a.0 w.alone (list_at x'.store 1) P a.1 c1 FP;
-        exchanges = filled_with (number_of x'.exchanges) (list_at x.store 2) (has_key x.store 2) same_key (keys_are x'.exchanges x.store 2) (slots_in x) slot b.0 w.whole (list_at x'.store 2) E b.1 c2 FE;
+        primaries = filled_with (number_of x'.primaries) (list_at x.store 1) (has_key x.store 1) same_key (keys_are x'.primaries x.store 1) (slots_in x) slot primary w.alone (list_at x'.store 1) P np l1 FP;
+        exchanges = filled_with (number_of x'.exchanges) (list_at x.store 2) (has_key x.store 2) same_key (keys_are x'.exchanges x.store 2) (slots_in x) slot exchange w.whole (list_at x'.store 2) E ne l2 FE;
       };
       waits = ap (map (waits_in_slot x'.store)) es ∙ map_push (waits_in_slot x'.store) (slots_in x) slot
           ∙ ap (λ (ys : List Waits). ys ++ waits_in_slot x'.store slot ∷ []) (map_same_in (waits_in_slot x.store) (waits_in_slot x'.store) (slots_in x) (λ s i. ap shown (others s (far s i))))
@@ -235,14 +231,13 @@ pub first_in : (xs : List ℕ) (s : ℕ) → slice_get xs 0 ≡ Some s → is_in
 first_in [] s e = absurd (none-some s e)
 first_in (x ∷ xs) s e = let same : s ≡ x = cc in rw (eq-eqb s x same) refl
 
-list_of_key : {S : Type 0} (m : IndexMap Key ℕ S) (it : Contents Waiter) (lane : ℕ) (slots : List ℕ) (key : Key) (o : Option ℕ) → IsIndexed it m lane slots → o ≡ number_of m key → IfSome o (λ k. IsSome (list_at it lane k))
-list_of_key m it lane slots key None A e = tt
-list_of_key m it lane slots key (Some k) A e = subst (λ (u : Option (List ℕ)). IsSome u) (sym (A.lists key k (sym e))) refl
+list_of_key : {S : Type 0} (m : IndexMap Key ℕ S) (it : Contents Waiter) (lane : ℕ) (slots : List ℕ) (key : Key) (k : ℕ) → IsIndexed it m lane slots → number_of m key ≡ Some k → IsSome (list_at it lane k)
+list_of_key m it lane slots key k A e = subst (λ (u : Option (List ℕ)). IsSome u) (sym (A.lists key k e)) refl
 
 -- the lists that an event comes last in are there
-pub lists_there : (x : Waiting) (w : Waiter) (primary exchange : Option ℕ) → IsListed x → HasRoom x w → primary ≡ number_of x.primaries w.alone → exchange ≡ number_of x.exchanges w.whole →
-    (l : ℕ) → l < 3 → IfSome (slice_index_or (Some x.all ∷ primary ∷ exchange ∷ []) l None) (λ k. IsSome (list_at x.store l k))
-lists_there x w primary exchange L R ep ee zero lt = L.there
-lists_there x w primary exchange L R ep ee (suc zero) lt = list_of_key x.primaries x.store 1 (slots_in x) w.alone primary L.primaries ep
-lists_there x w primary exchange L R ep ee (suc (suc zero)) lt = list_of_key x.exchanges x.store 2 (slots_in x) w.whole exchange L.exchanges ee
-lists_there x w primary exchange L R ep ee (suc (suc (suc l))) lt = absurd (omega arith)
+pub lists_there : (x : Waiting) (w : Waiter) (room : Room) → IsListed x → HasRoom x w room →
+    (l : ℕ) → l < 3 → IfSome (slice_index_or (Some x.all ∷ Some room.primary ∷ Some room.exchange ∷ []) l None) (λ k. IsSome (list_at x.store l k))
+lists_there x w room L R zero lt = L.there
+lists_there x w room L R (suc zero) lt = list_of_key x.primaries x.store 1 (slots_in x) w.alone room.primary L.primaries R.primary
+lists_there x w room L R (suc (suc zero)) lt = list_of_key x.exchanges x.store 2 (slots_in x) w.whole room.exchange L.exchanges R.exchange
+lists_there x w room L R (suc (suc (suc l))) lt = absurd (omega arith)

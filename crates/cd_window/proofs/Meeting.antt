@@ -4,7 +4,7 @@ use Rattle.cd_pairing.specs.declared.keyed.TheConstants.{LEAST_WEIGHT}
 use Rattle.cd_pairing.specs.Events.{EventView}
 use Rattle.cd_window.specs.declared.stamps.Stamp.{Stamp}
 use Rattle.cd_window.specs.Waiting.{Waits, waits_with, AreRising, CameBefore, AllBefore, left_of, joined_by}
-use Rattle.cd_window.specs.Joining.{before_next, after_next}
+use Rattle.cd_window.specs.Joining.{after_next}
 use Rattle.cd_window.proofs.Waits.{rising_filter, before_filter, before_later, rising_push, before_push}
 
 left_rising : (met : Option ℕ) (xs : List Waits) → AreRising xs → AreRising (left_of met xs)
@@ -23,12 +23,7 @@ joined_before : (met : Option ℕ) (x : Waits) (i c s : ℕ) (xs : List Waits) �
 joined_before None x i c s xs b h = before_push x i c s xs b h
 joined_before (Some n) x i c s xs b h = b
 
--- by the stamp before the next event
-pub before_is : (next : Stamp) (weight : ℕ) (at : Stamp) (xs : List Waits) → at ≡ before_next next → LEAST_WEIGHT ≤ weight → AllBefore next.index next.clock (next.weight_sum - weight) xs → AllBefore at.index at.clock at.weight_sum xs
-before_is next weight at xs e heavy b = subst (λ (t : Stamp). AllBefore t.index t.clock t.weight_sum xs) (sym e)
-    (before_later next.index next.clock (next.weight_sum - weight) next.index next.clock (next.weight_sum - LEAST_WEIGHT) xs (omega arith) (omega arith) (omega arith) b)
-
--- by the stamp after it
+-- by the stamp after the next event
 pub after_is : (next : Stamp) (weight : ℕ) (at : Stamp) (xs : List Waits) → at ≡ after_next next → AllBefore next.index next.clock (next.weight_sum - weight) xs → AllBefore at.index at.clock at.weight_sum xs
 after_is next weight at xs e b = subst (λ (t : Stamp). AllBefore t.index t.clock t.weight_sum xs) (sym e)
     (before_later next.index next.clock (next.weight_sum - weight) (next.index + 1) next.clock next.weight_sum xs (omega arith) (omega arith) (omega arith) b)
@@ -47,9 +42,8 @@ module _ (v : EventView) (next : Stamp) (summed : v.weight ≤ next.weight_sum) 
       (record { position = omega arith; time = omega arith; sum = omega arith })))
 
   -- the other side, without the event that is met
-  pub others_rising : (p : Waits → Bool) (others closed left : List Waits) → closed ≡ filter p others → left ≡ left_of met closed → AreRising others → AreRising left
-  others_rising p others closed left ec el r = subst AreRising (sym (el ∙ ap (left_of met) ec)) (left_rising met (filter p others) (rising_filter p others r))
+  pub others_rising : (others left : List Waits) → left ≡ left_of met others → AreRising others → AreRising left
+  others_rising others left el r = subst AreRising (sym el) (left_rising met others r)
 
-  pub others_before : (p : Waits → Bool) (at : Stamp) (others closed left : List Waits) → at ≡ after_next next → closed ≡ filter p others → left ≡ left_of met closed → AllBefore next.index next.clock (next.weight_sum - v.weight) others → AllBefore at.index at.clock at.weight_sum left
-  others_before p at others closed left ea ec el b = after_is next v.weight at left ea (subst (AllBefore next.index next.clock (next.weight_sum - v.weight)) (sym (el ∙ ap (left_of met) ec))
-      (left_before met next.index next.clock (next.weight_sum - v.weight) (filter p others) (before_filter p next.index next.clock (next.weight_sum - v.weight) others b)))
+  pub others_before : (at : Stamp) (others left : List Waits) → at ≡ after_next next → left ≡ left_of met others → AllBefore next.index next.clock (next.weight_sum - v.weight) others → AllBefore at.index at.clock at.weight_sum left
+  others_before at others left ea el b = after_is next v.weight at left ea (subst (AllBefore next.index next.clock (next.weight_sum - v.weight)) (sym el) (left_before met next.index next.clock (next.weight_sum - v.weight) others b))

@@ -156,7 +156,7 @@ gone_waits f g s (t ∷ ts) i r h = elim (cases_Bool (eqb s t)) [
           cc
     ]
 
-filter_map_is : (p : Waits → Bool) (f : ℕ → Waits) (ss : List ℕ) → filter p (map f ss) ≡ map f (filter (λ s. p (f s)) ss)
+pub filter_map_is : (p : Waits → Bool) (f : ℕ → Waits) (ss : List ℕ) → filter p (map f ss) ≡ map f (filter (λ s. p (f s)) ss)
 filter_map_is p f [] = refl
 filter_map_is p f (s ∷ ss) = elim (cases_Bool (p (f s))) [
   | inl e ↦ rw e (ap (λ (ys : List Waits). f s ∷ ys) (filter_map_is p f ss))

@@ -39,9 +39,7 @@ pub record Meets (windows : Windows) (side other : Side) (x : Waits) (next : Sta
     (own others own' others' : List Waits) : Type 0 where
   pub found : met ≡ agreeing x (filter (waits_still windows other (before_next next)) others)
   pub own_left : own' ≡ filter (waits_still windows side (after_next next)) (joined_by met x own)
-  pub others_left :
-      others' ≡ filter (waits_still windows other (after_next next))
-      (left_of met (filter (waits_still windows other (before_next next)) others))
+  pub others_left : others' ≡ filter (waits_still windows other (after_next next)) (left_of met others)
 
 -- the next event of this side meets one of the other side or waits, and what is neither closes windows alone
 abbrev pub Joins : Windows → Side → Waits → Stamp → Option ℕ → List Waits → List Waits → List Waits → List Waits →

@@ -5,15 +5,19 @@ use Rattle.indexmap.specs.IndexMap.{IndexMap, get}
 use Rattle.cd_chain.specs.Cells.{is_in, AreDistinct}
 use Rattle.cd_chain.specs.Chains.{without}
 use Rattle.cd_chain.specs.Contents.{Contents, value_at, used_slots, list_at, list_count, slots_of}
+use Rattle.cd_pairing.specs.declared.keyed.Side.{Side}
 use Rattle.cd_pairing.specs.declared.keyed.Side.TheVariants.{Query, Response}
+use Rattle.cd_pairing.specs.declared.keyed.Windows.{Windows}
 use Rattle.cd_pairing.specs.Events.{EventView}
 use Rattle.cd_window.specs.declared.key.Key.{Key}
+use Rattle.cd_window.specs.declared.stamps.Stamp.{Stamp}
 use Rattle.cd_window.specs.declared.waiter.Waiter.{Waiter}
+use Rattle.cd_window.specs.declared.waiting.Room.{Room}
 use Rattle.cd_window.specs.declared.waiting.Waiting.{Waiting}
 use Rattle.cd_window.specs.ByKey.{AreByKey, AreFilled}
 use Rattle.cd_window.specs.Keys.{same_key}
 use Rattle.cd_window.specs.Seen.{Seen}
-use Rattle.cd_window.specs.Waiting.{Waits, waits_of, waiting, agrees_with}
+use Rattle.cd_window.specs.Waiting.{Waits, waits_of, waiting, waits_still, agrees_with}
 
 -- the key by which an event stands in a lane: of its primary in lane 1, of both in lane 2
 abbrev pub key_in : ℕ → Waiter → Key
@@ -80,6 +84,14 @@ shown (Some w) = waits_of w
 abbrev pub waits_in_slot : Contents Waiter → ℕ → Waits
 waits_in_slot it s = shown (value_at it s)
 
+-- whether the event in a slot waits still
+abbrev pub still_in_slot : Windows → Side → Stamp → Contents Waiter → ℕ → Bool
+still_in_slot windows side now it s = waits_still windows side now (waits_in_slot it s)
+
+-- of these slots, those whose events wait still
+abbrev pub open_of : Windows → Side → Stamp → Contents Waiter → List ℕ → List ℕ
+open_of windows side now it slots = filter (still_in_slot windows side now it) slots
+
 -- the events that wait, in order
 abbrev pub waits_in : Waiting → List Waits
 waits_in x = map (waits_in_slot x.store) (slots_in x)
@@ -98,11 +110,11 @@ pub record HasNoEmpty (x : Waiting) : Type 0 where
   pub primaries : IsFilled x.store x.primaries 1 no_key
   pub exchanges : IsFilled x.store x.exchanges 2 no_key
 
--- there is a spare slot for an event, and its lists are there; only they may be empty
-pub record HasRoom (x : Waiting) (w : Waiter) : Type 0 where
+-- there is a spare slot for an event, and its lists are there under these numbers; only they may be empty
+pub record HasRoom (x : Waiting) (w : Waiter) (room : Room) : Type 0 where
   pub spare : 0 < x.store.spare
-  pub primary : IsSome (number_of x.primaries w.alone)
-  pub exchange : IsSome (number_of x.exchanges w.whole)
+  pub primary : number_of x.primaries w.alone ≡ Some room.primary
+  pub exchange : number_of x.exchanges w.whole ≡ Some room.exchange
   pub primaries : IsFilled x.store x.primaries 1 (but_key w.alone)
   pub exchanges : IsFilled x.store x.exchanges 2 (but_key w.whole)
 

@@ -1,8 +1,8 @@
-ghost use Rattle.std.specs.Prelude.{◌≡◌, ◌≤◌, ◌<◌, ◌+◌, ◌-◌, ◌^◌, ℕ, List, Option, IfOk, OnOk, IfErr, OnErr};
+ghost use Rattle.std.specs.Prelude.{◌≡◌, ◌≤◌, ◌<◌, ◌+◌, ◌-◌, ◌^◌, ℕ, List, length, Option, None, IfOk, OnOk, IfErr, OnErr};
 ghost use Rattle.cd_pairing.specs.declared.keyed.TheConstants.{LEAST_WEIGHT};
 ghost use Rattle.cd_window.specs.Places.{IsAmong};
 ghost use Rattle.cd_window.specs.Waiting.{Waits, waits_of, waits_with, joined_by};
-ghost use Rattle.cd_window.specs.Lists.{waits_in, IsListed, HasNoEmpty, HasRoom};
+ghost use Rattle.cd_window.specs.Lists.{waits_in, IsListed, HasNoEmpty};
 ghost use Rattle.cd_window.specs.Joining.{before_next, after_next, CanJoin, Meets, Joins, Admits};
 
 use crate::held::Held;
@@ -57,16 +57,19 @@ fn after_next(next: Stamp) -> Stamp
 }
 
 // Has an event wait unless it has met its partner.
-fn wait_unless_met(own: &mut Waiting, waiter: Waiter, met: Option<u64>)
+fn wait_unless_met(own: &mut Waiting, waiter: Waiter, met: Option<u64>) -> Result<(), AllocError>
     requires listed { IsListed own.old }
-    requires room { HasRoom own.old waiter }
+    requires filled { HasNoEmpty own.old }
+    requires few { length (waits_in own.old) + 1 < 2 ^ 31 }
     ensures listed { IsListed own.new }
     ensures filled { HasNoEmpty own.new }
-    ensures joined { waits_in own.new ≡ joined_by met (waits_of waiter) (waits_in own.old) }
+    ensures joined { OnOk result (waits_in own.new ≡ joined_by met (waits_of waiter) (waits_in own.old)) }
+    ensures alone { OnErr result (met ≡ None) }
+    ensures same { OnErr result (waits_in own.new ≡ waits_in own.old) }
 {
     match met {
-        None => own.put(waiter),
-        Some(_) => own.drop_room(&waiter),
+        None => own.wait(waiter),
+        Some(_) => Ok(()),
     }
 }
 
@@ -99,11 +102,9 @@ fn meet<E: Keyed>(
     ensures err_others { OnErr result (waits_in others.new ≡ waits_in others.old) }
 {
     let waiter = waiter_of(own.alloc, event, next)?;
-    own.make_room(&waiter)?;
     let before = before_next(next);
-    others.close(windows, other, before);
-    let met = others.take_agreeing(&waiter);
-    wait_unless_met(own, waiter, met);
+    let met = others.take_agreeing(windows, other, before, &waiter);
+    wait_unless_met(own, waiter, met)?;
     let after = after_next(next);
     own.close(windows, side, after);
     others.close(windows, other, after);

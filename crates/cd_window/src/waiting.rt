@@ -5,16 +5,23 @@ ghost use Rattle.cd_chain.specs.Cells.{is_in};
 ghost use Rattle.cd_chain.specs.Contents.{value_at, list_count};
 ghost use Rattle.cd_window.specs.Waiting.{waits_of, waits_still, AreRising, AllBefore, NoneBefore, agreeing, left_of, but_at};
 ghost use Rattle.cd_window.specs.Lists.{slots_in, waits_in, waits_in_slot, agrees_in_slot, earlier_slot, IsListed};
-ghost use Rattle.cd_window.specs.Lists.{HasNoEmpty, HasRoom, Removes, IsFilled, no_key, but_key, number_of};
+ghost use Rattle.cd_window.specs.Lists.{HasNoEmpty, HasRoom, Removes, IsFilled, no_key, but_key, number_of, open_of};
 
 use crate::key::Key;
-use crate::lists::{add_list_of, drop_list_of, first_of, number_of};
-use crate::stamps::{Stamp, waits_still};
+use crate::lists::{add_list_of, closed, drop_list_of, first_of};
+use crate::stamps::Stamp;
 use crate::waiter::Waiter;
 use cd_chain::Store;
 use cd_pairing::{Side, Windows};
 use indexmap::IndexMap;
 use std::alloc::{AllocError, Global};
+
+// The numbers of the lists in lanes 1 and 2 that an event comes last in.
+#[derive(Clone, Copy, Debug)]
+pub(crate) struct Room {
+    pub(crate) primary: u32,
+    pub(crate) exchange: u32,
+}
 
 // The events of one side that wait for their partners.
 #[derive(Drop)]
@@ -83,16 +90,8 @@ impl Waiting {
         ensures still { result ≡ None → (s : ℕ) → slice_get (slots_in self.now) 0 ≡ Some s →
             waits_still windows.now side now (waits_in_slot self.now.store s) ≡ true }
     {
-        match self.store.first(0, self.all) {
-            None => None,
-            Some(slot) => {
-                if waits_still(windows, side, now, self.store.get(slot)) {
-                    None
-                } else {
-                    Some(slot)
-                }
-            }
-        }
+        let front = self.store.first(0, self.all);
+        closed(&self.store, front, windows, side, now)
     }
 
     // Lets go of the events that wait no more, from the first on.
@@ -130,34 +129,51 @@ impl Waiting {
         }
     }
 
-    // The slot of the first event that agrees with this one.
-    fn agreeing(&self, waiter: &Waiter) -> Option<u32>
+    // The slot of the first event that agrees with this one and waits still.
+    fn agreeing(
+        &self,
+        windows: &Windows,
+        side: Side,
+        now: Stamp,
+        waiter: &Waiter,
+    ) -> Option<u32>
         requires listed { IsListed self.now }
         requires rising { AreRising (waits_in self.now) }
         ensures { result ≡ slice_get
-            (filter (agrees_in_slot self.now.store (waits_of waiter.now)) (slots_in self.now)) 0 }
+            (filter (agrees_in_slot self.now.store (waits_of waiter.now))
+            (open_of windows.now side now self.now.store (slots_in self.now))) 0 }
     {
+        let store = &self.store;
+        let primaries = &self.primaries;
+        let exchanges = &self.exchanges;
         match &waiter.whole.secondary {
-            None => first_of(&self.store, &self.primaries, 1, &waiter.alone),
+            None => first_of(store, primaries, 1, &waiter.alone, windows, side, now),
             Some(_) => {
-                let same = first_of(&self.store, &self.exchanges, 2, &waiter.whole);
-                let absent = first_of(&self.store, &self.exchanges, 2, &waiter.alone);
+                let same = first_of(store, exchanges, 2, &waiter.whole, windows, side, now);
+                let absent = first_of(store, exchanges, 2, &waiter.alone, windows, side, now);
                 self.earlier(same, absent)
             }
         }
     }
 
-    // Takes the first event that agrees with this one, and gives its position.
-    pub(crate) fn take_agreeing(&mut self, waiter: &Waiter) -> Option<u64>
+    // Takes the first event that agrees with this one and waits still, and gives its position.
+    pub(crate) fn take_agreeing(
+        &mut self,
+        windows: &Windows,
+        side: Side,
+        now: Stamp,
+        waiter: &Waiter,
+    ) -> Option<u64>
         requires listed { IsListed self.old }
         requires filled { HasNoEmpty self.old }
         requires rising { AreRising (waits_in self.old) }
         ensures listed { IsListed self.new }
         ensures filled { HasNoEmpty self.new }
-        ensures found { result ≡ agreeing (waits_of waiter.now) (waits_in self.old) }
+        ensures found { result ≡ agreeing (waits_of waiter.now)
+            (filter (waits_still windows.now side now) (waits_in self.old)) }
         ensures left { waits_in self.new ≡ left_of result (waits_in self.old) }
     {
-        match self.agreeing(waiter) {
+        match self.agreeing(windows, side, now, waiter) {
             None => None,
             Some(slot) => {
                 let taken = self.remove(slot);
@@ -216,14 +232,14 @@ impl Waiting {
     }
 
     // Makes the lists of an event where they are not there.
-    fn add_lists(&mut self, waiter: &Waiter) -> Result<(), AllocError>
+    fn add_lists(&mut self, waiter: &Waiter) -> Result<Room, AllocError>
         requires listed { IsListed self.old }
         requires filled { HasNoEmpty self.old }
         requires few { length (waits_in self.old) < 2 ^ 31 }
         requires spare { 0 < self.old.store.spare }
         ensures listed { IsListed self.new }
         ensures same { waits_in self.new ≡ waits_in self.old }
-        ensures room { OnOk result (HasRoom self.new waiter.now) }
+        ensures room { IfOk result (λ room. HasRoom self.new waiter.now room) }
         ensures err_filled { OnErr result (HasNoEmpty self.new) }
     {
         match add_list_of(
@@ -234,21 +250,21 @@ impl Waiting {
             &waiter.alone,
         ) {
             Err(AllocError) => Err(AllocError),
-            Ok(()) => self.add_exchange(waiter),
+            Ok(primary) => self.add_exchange(waiter, primary),
         }
     }
 
     // Makes the list of an event's primary and secondary where it is not there. The list of its primary is there.
-    fn add_exchange(&mut self, waiter: &Waiter) -> Result<(), AllocError>
+    fn add_exchange(&mut self, waiter: &Waiter, primary: u32) -> Result<Room, AllocError>
         requires listed { IsListed self.old }
         requires primaries { IsFilled self.old.store self.old.primaries 1 (but_key waiter.now.alone) }
-        requires primary { IsSome (number_of self.old.primaries waiter.now.alone) }
+        requires primary { number_of self.old.primaries waiter.now.alone ≡ Some primary }
         requires exchanges { IsFilled self.old.store self.old.exchanges 2 no_key }
         requires few { list_count self.old.store 2 < 2 ^ 31 }
         requires spare { 0 < self.old.store.spare }
         ensures listed { IsListed self.new }
         ensures same { waits_in self.new ≡ waits_in self.old }
-        ensures room { OnOk result (HasRoom self.new waiter.now) }
+        ensures room { IfOk result (λ room. HasRoom self.new waiter.now room) }
         ensures err_filled { OnErr result (HasNoEmpty self.new) }
     {
         match add_list_of(
@@ -262,18 +278,18 @@ impl Waiting {
                 drop_list_of(&mut self.store, &mut self.primaries, 1, &waiter.alone);
                 Err(AllocError)
             }
-            Ok(()) => Ok(()),
+            Ok(exchange) => Ok(Room { primary, exchange }),
         }
     }
 
     // Takes all the memory that an event needs to wait here.
-    pub(crate) fn make_room(&mut self, waiter: &Waiter) -> Result<(), AllocError>
+    fn make_room(&mut self, waiter: &Waiter) -> Result<Room, AllocError>
         requires listed { IsListed self.old }
         requires filled { HasNoEmpty self.old }
         requires few { length (waits_in self.old) + 1 < 2 ^ 31 }
         ensures listed { IsListed self.new }
         ensures same { waits_in self.new ≡ waits_in self.old }
-        ensures room { OnOk result (HasRoom self.new waiter.now) }
+        ensures room { IfOk result (λ room. HasRoom self.new waiter.now room) }
         ensures err_filled { OnErr result (HasNoEmpty self.new) }
     {
         match self.reserve() {
@@ -282,29 +298,34 @@ impl Waiting {
         }
     }
 
-    // Gives up the room that an event would have needed.
-    pub(crate) fn drop_room(&mut self, waiter: &Waiter)
-        requires listed { IsListed self.old }
-        requires room { HasRoom self.old waiter.now }
-        ensures listed { IsListed self.new }
-        ensures filled { HasNoEmpty self.new }
-        ensures same { waits_in self.new ≡ waits_in self.old }
-    {
-        drop_list_of(&mut self.store, &mut self.primaries, 1, &waiter.alone);
-        drop_list_of(&mut self.store, &mut self.exchanges, 2, &waiter.whole);
-    }
-
     // Has an event wait for which there is room.
-    pub(crate) fn put(&mut self, waiter: Waiter)
+    fn put(&mut self, waiter: Waiter, room: Room)
         requires listed { IsListed self.old }
-        requires room { HasRoom self.old waiter }
+        requires room { HasRoom self.old waiter room }
         ensures listed { IsListed self.new }
         ensures filled { HasNoEmpty self.new }
         ensures put { waits_in self.new ≡ waits_in self.old ++ waits_of waiter ∷ [] }
     {
-        let primary = number_of(&self.primaries, &waiter.alone);
-        let exchange = number_of(&self.exchanges, &waiter.whole);
-        self.store
-            .put_reserved(waiter, [Some(self.all), primary, exchange]);
+        let lists = [Some(self.all), Some(room.primary), Some(room.exchange)];
+        self.store.put_reserved(waiter, lists);
+    }
+
+    // Has an event wait. Where memory is wanting, the same events wait as before.
+    pub(crate) fn wait(&mut self, waiter: Waiter) -> Result<(), AllocError>
+        requires listed { IsListed self.old }
+        requires filled { HasNoEmpty self.old }
+        requires few { length (waits_in self.old) + 1 < 2 ^ 31 }
+        ensures listed { IsListed self.new }
+        ensures filled { HasNoEmpty self.new }
+        ensures put { OnOk result (waits_in self.new ≡ waits_in self.old ++ waits_of waiter ∷ []) }
+        ensures same { OnErr result (waits_in self.new ≡ waits_in self.old) }
+    {
+        match self.make_room(&waiter) {
+            Err(AllocError) => Err(AllocError),
+            Ok(room) => {
+                self.put(waiter, room);
+                Ok(())
+            }
+        }
     }
 }

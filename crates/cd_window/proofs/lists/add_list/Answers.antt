@@ -13,8 +13,8 @@ pub returns-in-Ok-clause-filled : goal.returns-in-Ok-clause-filled
 returns-in-Ok-clause-filled c = added_filled c.args.numbers.now c.insert.new.self c.args.store.now c.add_list.new.self c.args.lane c.in_ok-list.list c.in_ok-copy.copy
     c.requires.slots.0 c.args.key.now c.in_ok-copy.ensures c.in-Ok.ensures.updates.0 c.in_ok-list.ensures.ok c.requires.slots.1 c.requires.filled
 
-pub returns-in-Ok-clause-there : goal.returns-in-Ok-clause-there
-returns-in-Ok-clause-there c = added_number c.args.numbers.now c.insert.new.self c.args.store.now c.add_list.new.self c.args.lane c.in_ok-list.list c.in_ok-copy.copy
+pub returns-in-Ok-clause-number : goal.returns-in-Ok-clause-number
+returns-in-Ok-clause-number c = added_number c.args.numbers.now c.insert.new.self c.args.store.now c.add_list.new.self c.args.lane c.in_ok-list.list c.in_ok-copy.copy
     c.args.key.now c.in_ok-copy.ensures c.in-Ok.ensures.updates.0
 
 pub returns-in-Ok-clause-rest : goal.returns-in-Ok-clause-rest

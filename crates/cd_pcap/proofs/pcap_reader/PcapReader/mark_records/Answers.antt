@@ -1,5 +1,6 @@
 use Rattle.std.proofs.Common.{◌≡◌, ℕ, ◌+◌, ◌≤◌, None, Option, IsSome, length, drop, arith}
 use Rattle.std.proofs.lemmas.List.{length-drop, drop-drop, take_rest}
+use Rattle.cd_pcap.specs.Pcap.{little_micros}
 use Rattle.cd_pcap.specs.Reading.{AreOpen, AreRefused}
 use Rattle.cd_pcap.proofs.Inside.{held_in, marked_inside, sound_inside}
 use Rattle.cd_pcap.proofs.Marks.{after_header}
@@ -26,7 +27,7 @@ returns-in-None-clause-history c =
     let stopped = rw c.in-None.is at k.stopped in
     let header : IsSome c.self.inside.link = rw (← c.self.view_is) at c.requires.header in
     let sound : c.self.inside.refused ≡ None = rw (← c.self.view_is) at c.requires.sound in
-    let P : Option ℕ → Type 0 = λ l. AreOpen l (c.self.inside.at + whole + size) (drop size (drop whole (held_in c.self.inside))) in
+    let P : Option ℕ → Type 0 = λ l. AreOpen little_micros l (c.self.inside.at + whole + size) (drop size (drop whole (held_in c.self.inside))) in
     rw (← c.self.view_is) (λ fed given h. marked_open _ size fed given sound (after_header P c.self.inside.link header stopped) h)
 
 pub returns-in-Some-clause-history : goal.returns-in-Some-clause-history
@@ -38,5 +39,5 @@ returns-in-Some-clause-history c =
     let header : IsSome c.self.inside.link = rw (← c.self.view_is) at c.requires.header in
     let sound = sound_inside c.self.inside c.self.invariant in
     let within : whole + size ≤ length (held_in c.self.inside) = omega (arith, k.within, sound.within, length-drop whole (held_in c.self.inside)) in
-    let P : Option ℕ → Type 0 = λ l. AreRefused l (c.self.inside.at + whole + size) c.in-Some.bad (drop size (drop whole (held_in c.self.inside))) in
+    let P : Option ℕ → Type 0 = λ l. AreRefused little_micros l (c.self.inside.at + whole + size) c.in-Some.bad (drop size (drop whole (held_in c.self.inside))) in
     rw (c.refuse.ensures, ← c.self.view_is) (λ fed given h. marked_refused _ size c.in-Some.bad fed given within (after_header P c.self.inside.link header stopped) h)

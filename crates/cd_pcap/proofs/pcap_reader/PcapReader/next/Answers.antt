@@ -4,15 +4,15 @@ use Rattle.cd_packet.specs.declared.packet.Packet.{Packet}
 use Rattle.cd_pcap.specs.Fronts.{HasRecord}
 use Rattle.cd_pcap.specs.Laws.{record_size}
 use Rattle.cd_pcap.specs.Reading.{Kept}
-use Rattle.cd_pcap.specs.Pcap.{little_micros, captured_length, packet_at}
+use Rattle.cd_pcap.specs.Pcap.{Form, captured_length, packet_at}
 use Rattle.cd_pcap.proofs.Standing.{all_given, header_first, packet_passed}
 use Rattle.cd_pcap.proofs.Inside.{first_inside, passed_inside, sound_inside}
 use Rattle.cd_pcap.proofs.pcap_reader.PcapReader.next.Goals as goal
 
 -- the record at the front is that of its packet
-size_passed : (link at size : ℕ) (held : List ℕ) (p : Packet) → HasRecord size held → p ≡ packet_at little_micros link at held → record_size p ≡ size
-size_passed link at size held p first is =
-    let n : ℕ = captured_length little_micros held in
+size_passed : (form : Form) (link at size : ℕ) (held : List ℕ) (p : Packet) → HasRecord form size held → p ≡ packet_at form link at held → record_size p ≡ size
+size_passed form link at size held p first is =
+    let n : ℕ = captured_length form held in
     let bytes : length p.bytes ≡ n =
     ap (λ (q : Packet). length q.bytes) is ∙ length-take-le n (drop 16 held) (omega (arith, first.sum, first.whole, length-drop 16 held)) in
     omega (arith, first.sum, bytes)
@@ -75,6 +75,6 @@ returns-clause-moves c =
     let is = rw (c.deref.ensures.value, take_rest) at c.record_size-size.ensures in
     let packet = rw (c.deref.ensures.value, take_rest) at c.in_ok-packet.ensures in
     let b = rw (← is) at (first_inside c.self.inside c.in-Some.link c.self.invariant c.in-Some.is (omega arith)) in
-    let size : record_size c.in_ok-packet.packet ≡ c.record_size-size.result = size_passed _ _ _ _ c.in_ok-packet.packet b.first packet in
+    let size : record_size c.in_ok-packet.packet ≡ c.record_size-size.result = size_passed _ _ _ _ _ c.in_ok-packet.packet b.first packet in
     let place : c.args.self.now.at ≡ c.self.inside.at = sym (ap (λ (r : Kept). r.at) c.self.view_is) in
     (omega (arith, size, place), omega (arith, b.within, c.self.invariant.within, c.self.invariant.counted, c.self.invariant.few))

@@ -23,7 +23,7 @@ pub returns-in-Ok-clause-room : goal.returns-in-Ok-clause-room
 returns-in-Ok-clause-room c = record {
   spare = (let a = c.add_list_of.ensures.rest.spare in let b = c.requires.spare in let d : 0 < c.add_list_of.new.store.spare = omega arith in d);
   primary = c.requires.primary;
-  exchange = c.in-Ok.ensures.there;
+  exchange = c.in-Ok.ensures.number;
   primaries = filled_rest c.args.self.now.primaries c.args.self.now.store c.add_list_of.new.store 2 1 (but_key c.args.waiter.now.alone) c.add_list_of.ensures.rest (λ z. omega arith) c.requires.primaries;
   exchanges = c.in-Ok.ensures.filled;
 }
