@@ -3,3 +3,9 @@ pub mod Maps
 pub mod MapSizes
 pub mod Numbers
 pub mod Sizes
+pub mod ValuesReadBack
+pub mod MapsReadBack
+pub mod TablesReadBack
+pub mod BlocksReadBack
+pub mod HeadReadBack
+pub mod FilesReadBack

@@ -14,3 +14,5 @@ pub mod ItemHeads
 pub mod ReadFile
 pub mod KeptFile
 pub mod FileReading
+pub mod Readable
+pub mod ReadBack
