@@ -54,7 +54,7 @@ indefinite_front_goes bytes room top major.Map = goes_if bytes (nat_eq room 0) _
 indefinite_front_goes bytes room top major.Tag = goes_refused bytes 0 why.Head (λ e. cc)
 indefinite_front_goes bytes room top major.Simple = break_goes bytes top
 
-head_front_goes : (bytes more : List ℕ) (room : ℕ) (top : Option Wanted) → Goes bytes (head_front room top bytes) (head_front room top (bytes ++ more))
+pub head_front_goes : (bytes more : List ℕ) (room : ℕ) (top : Option Wanted) → Goes bytes (head_front room top bytes) (head_front room top (bytes ++ more))
 unfolding head_front
 head_front_goes bytes more room top =
     goes_bind bytes _ _ _ _ (byte_goes bytes more 0)

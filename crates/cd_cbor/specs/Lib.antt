@@ -12,4 +12,5 @@ pub mod Following
 pub mod EventLaws
 pub mod Telling
 pub mod OnePath
+pub mod Scanning
 pub mod Laws

@@ -1,5 +1,5 @@
 -- What a reading gives: a value and the offset after it, or the first fault from the left.
-use Rattle.std.specs.Prelude.{◌≡◌, ℕ, zero, suc, ◌+◌, nat_lt, nat_eq, List, [], ◌∷◌, length, take, drop, slice_index, Result, Ok, Err, if◌then◌else◌}
+use Rattle.std.specs.Prelude.{◌≡◌, ℕ, zero, suc, ◌+◌, ◌≤◌, nat_lt, nat_eq, List, [], ◌∷◌, length, take, drop, slice_index, Result, Ok, Err, if◌then◌else◌}
 use Rattle.cd_cbor.specs.declared.fault.Why.{Why}
 use Rattle.cd_cbor.specs.declared.fault.Why.TheVariants as why
 use Rattle.cd_cbor.specs.declared.fault.CborFault.{CborFault}
@@ -60,3 +60,8 @@ GivesFault fault.NoMemory reading = Unit {0}
 abbrev pub Gives : {X Y : Type 0} → (X → Y) → Result X CborFault → Result Y CborFault → Type 0
 Gives view (Ok x) reading = reading ≡ Ok (view x)
 Gives view (Err e) reading = GivesFault e reading
+
+-- a fault lies within these bytes, or at their end, and is none of memory
+abbrev pub LiesWithin : List ℕ → CborFault → Type 0
+LiesWithin bytes (fault.Bad at reason) = at ≤ length bytes
+LiesWithin bytes fault.NoMemory = ⊥

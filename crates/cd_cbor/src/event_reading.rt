@@ -1,9 +1,9 @@
 //! Reads the head at the front of some bytes as an event.
 
-ghost use Rattle.std.specs.Prelude.{◌≡◌, ◌<◌, ◌≤◌, length, Ok, IfOk};
+ghost use Rattle.std.specs.Prelude.{◌≡◌, ◌<◌, ◌≤◌, [], length, Ok, IfOk, IfErr};
 ghost use Rattle.cd_cbor.specs.Events as events;
 ghost use Rattle.cd_cbor.specs.Events.{HasRoom};
-ghost use Rattle.cd_cbor.specs.Readings.{Gives};
+ghost use Rattle.cd_cbor.specs.Readings.{Gives, LiesWithin};
 ghost use Rattle.cd_cbor.specs.declared.event.Told.TheVariants as told;
 ghost use Rattle.cd_cbor.specs.declared.event.Act.TheVariants as act;
 ghost use Rattle.cd_cbor.specs.declared.event.Event.TheVariants as event;
@@ -20,8 +20,10 @@ use std::alloc::Global;
 
 // Whether a break may stand where this is wanted, and else what it is.
 #[tactic(auto, unfolding(crate::specs::Events::break_front))]
-fn may_close(top: Option<Wanted>) -> Result<(), CborFault>
-    ensures { Gives (λ _. (told.Event event.Close act.Close, 1)) result (events.break_front top) }
+pub(crate) fn may_close(top: Option<Wanted>) -> Result<(), CborFault>
+    ensures read { Gives (λ _. (told.Event event.Close act.Close, 1)) result
+        (events.break_front top) }
+    ensures fault { IfErr result (λ e. LiesWithin [] e) }
 {
     match top {
         None => Err(bad(0, Why::Break)),
@@ -63,7 +65,7 @@ fn string_front(
 }
 
 // What an array of so many items does, where one more may be open.
-fn array_act(count: u64) -> Act
+pub(crate) fn array_act(count: u64) -> Act
     ensures { result ≡ events.array_act count }
 {
     if count == 0 {
@@ -74,7 +76,7 @@ fn array_act(count: u64) -> Act
 }
 
 // What a map of so many pairs does, where one more may be open.
-fn map_act(count: u64) -> Act
+pub(crate) fn map_act(count: u64) -> Act
     ensures { result ≡ events.map_act count }
 {
     if count == 0 {

@@ -1,10 +1,10 @@
 //! Reads heads.
 
-ghost use Rattle.std.specs.Prelude.{◌≡◌, ◌+◌, ◌/◌, ◌<◌, ◌≤◌, length, IfOk};
+ghost use Rattle.std.specs.Prelude.{◌≡◌, ◌+◌, ◌/◌, ◌<◌, ◌≤◌, length, IfOk, IfErr};
 ghost use Rattle.cd_cbor.specs.Heads as heads;
 ghost use Rattle.cd_cbor.specs.Reading as reading;
 ghost use Rattle.cd_cbor.specs.Readings as readings;
-ghost use Rattle.cd_cbor.specs.Readings.{Gives};
+ghost use Rattle.cd_cbor.specs.Readings.{Gives, LiesWithin};
 ghost use Rattle.cd_cbor.specs.declared.fault.CborFault.TheVariants as fault;
 
 use crate::fault::{CborFault, Why};
@@ -28,6 +28,7 @@ pub(crate) fn bad(at: usize, why: Why) -> CborFault
 pub fn byte_at(bytes: &[u8], at: usize) -> Result<u8, CborFault>
     ensures read { Gives (λ byte. byte) result (readings.byte_at at bytes.now) }
     ensures within { IfOk result (λ _. at < length bytes.now) }
+    ensures fault { IfErr result (λ e. LiesWithin bytes.now e) }
 {
     if at < bytes.len() {
         Ok(bytes[at])
@@ -103,6 +104,7 @@ pub fn argument_at(bytes: &[u8], info: u8, at: usize) -> Result<(u64, usize), Cb
     ensures read { Gives (λ x. (x.0, x.1)) result (reading.argument_at info at bytes.now) }
     ensures within { IfOk result (λ x. (at < x.1) × (x.1 ≤ length bytes.now)) }
     ensures small { IfOk result (λ x. info < 25 → x.0 < 256) }
+    ensures fault { IfErr result (λ e. LiesWithin bytes.now e) }
 {
     let size = argument_size(info);
     let start = at + 1;

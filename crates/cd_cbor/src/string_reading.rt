@@ -1,10 +1,10 @@
 //! Reads strings.
 
-ghost use Rattle.std.specs.Prelude.{◌≡◌, ◌+◌, ◌<◌, ◌≤◌, length, IfOk};
+ghost use Rattle.std.specs.Prelude.{◌≡◌, ◌+◌, ◌<◌, ◌≤◌, length, IfOk, IfErr};
 ghost use Rattle.cd_cbor.specs.Heads as heads;
 ghost use Rattle.cd_cbor.specs.Spells.{most_string, is_content};
 ghost use Rattle.cd_cbor.specs.Reading as reading;
-ghost use Rattle.cd_cbor.specs.Readings.{Gives};
+ghost use Rattle.cd_cbor.specs.Readings.{Gives, LiesWithin};
 
 use crate::fault::{CborFault, Why};
 use crate::head_reading::{NO_ARGUMENT, argument_at, bad, byte_at};
@@ -39,12 +39,14 @@ pub fn content_at(
     size: usize,
     at: usize,
 ) -> Result<(&[u8], usize), CborFault>
+    requires before { head ≤ at }
     requires within { at ≤ length bytes.now }
     requires short { size ≤ most_string }
     ensures read { Gives (λ x. (x.0.now, x.1)) result
         (reading.content_at is_text head size at bytes.now) }
     ensures within { IfOk result (λ x. (at ≤ x.1) × (x.1 ≤ length bytes.now)) }
     ensures short { IfOk result (λ x. length x.0.now ≡ size) }
+    ensures fault { IfErr result (λ e. LiesWithin bytes.now e) }
 {
     if bytes.len() < at + size {
         return Err(bad(bytes.len(), Why::End));
@@ -72,6 +74,7 @@ pub(crate) fn string_at(
         (reading.string_at is_text before info at bytes.now) }
     ensures within { IfOk result (λ x. (at < x.1) × (x.1 ≤ length bytes.now)) }
     ensures short { IfOk result (λ x. before + length x.0.now ≤ most_string) }
+    ensures fault { IfErr result (λ e. LiesWithin bytes.now e) }
 {
     let (size, next) = argument_at(bytes, info, at)?;
     if size > MOST_STRING - before {
@@ -105,6 +108,7 @@ pub(crate) fn chunk_at(
         (reading.chunk_at is_text bytes.now (before, at)) }
     ensures within { IfOk result (λ x. (at < x.1) × (x.1 ≤ length bytes.now)) }
     ensures short { IfOk result (λ x. before + length x.0.now ≤ most_string) }
+    ensures fault { IfErr result (λ e. LiesWithin bytes.now e) }
 {
     let first = byte_at(bytes, at)?;
     if !is_chunk(is_text, first) {

@@ -30,7 +30,7 @@ use Rattle.cd_file.specs.Head.{preamble_item}
 use Rattle.cd_file.specs.Blocks.{block_item}
 use Rattle.cd_file.specs.Files.{file_head, block_spelling, file_end, file_begun, file_of}
 use Rattle.cd_file.specs.Maps.{entries_spelling}
-use Rattle.cd_file.specs.ItemHeads.{ItemHead, is_low_simple, is_too_long, definite_head, indefinite_head, head_front}
+use Rattle.cd_file.specs.ItemHeads.{ItemHead, is_low_simple, is_too_long, definite_head, indefinite_head, begun_item}
 use Rattle.cd_file.specs.ReadHead.{read_params}
 use Rattle.cd_file.specs.ReadBlock.{read_block}
 use Rattle.cd_file.specs.ReadFile.{FileEnd, Whole, Open, FileRead, after_blocks, blockless, element_head, item_front, outer_front, title_head, title_front, title_by, title_on, preamble_front, preamble_on, count_front, array_on, block_front, closing, blocks_on, read_file}
@@ -58,8 +58,8 @@ item_stands depth at item more short fits =
 
 -- a definite head, of an item that is no simple value, at the front
 head_stands : (kind : MajorType) (n : ℕ) (h rest : List ℕ) → IsHead kind n h → major_number kind < 7 → is_too_long kind n ≡ false →
-    head_front (h ++ rest) ≡ Ok (record { kind = kind; argument = Some n }, length h)
-unfolding head_front definite_head
+    begun_item (h ++ rest) ≡ Ok (record { kind = kind; argument = Some n }, length h)
+unfolding begun_item definite_head
 head_stands kind n h rest is low short =
     let a : HeadIs kind n 0 (h ++ rest) h is.info = head_reads kind n 0 (h ++ rest) h rest refl is in
     let type : (32 * major_number kind + is.info) / 32 ≡ major_number kind = omega (arith, is.definite) in
@@ -129,13 +129,13 @@ preamble_stands at p rest r =
     let spelled : spelling (preamble_item p) ≡ head 5 3 ++ entries_spelling _ = map_spelled _ in
     let whole : spelling (preamble_item p) ++ rest ≡ head 5 3 ++ (entries_spelling _ ++ rest) =
     ap (λ t. t ++ rest) spelled ∙ append_assoc (head 5 3) (entries_spelling _) rest in
-    let begins : head_front (spelling (preamble_item p) ++ rest) ≡ Ok (record { kind = major.Map; argument = Some 3 }, length (head 5 3)) =
-    ap head_front whole ∙ head_stands major.Map 3 (head 5 3) (entries_spelling _ ++ rest) (head_is_head major.Map 3 (omega arith)) (omega arith) refl in
+    let begins : begun_item (spelling (preamble_item p) ++ rest) ≡ Ok (record { kind = major.Map; argument = Some 3 }, length (head 5 3)) =
+    ap begun_item whole ∙ head_stands major.Map 3 (head 5 3) (entries_spelling _ ++ rest) (head_is_head major.Map 3 (omega arith)) (omega arith) refl in
     rw (begins, item_stands 15 at (preamble_item p) rest r.is_short (preamble_fits 10 p r r.is_short), preamble_read p r) refl
 
 -- the head of the array of blocks
 count_stands : (at : ℕ) (rest : List ℕ) → count_front false at (0x9f ∷ rest) ≡ Ok (None, 1)
-unfolding count_front element_head head_front indefinite_head major_type
+unfolding count_front element_head begun_item indefinite_head major_type
 count_stands at rest = rw (first_is 0 (0x9f ∷ rest) 0x9f rest refl) refl
 
 -- all before the first block

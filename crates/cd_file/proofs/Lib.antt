@@ -9,3 +9,4 @@ pub mod TablesReadBack
 pub mod BlocksReadBack
 pub mod HeadReadBack
 pub mod FilesReadBack
+pub mod HeadsOf

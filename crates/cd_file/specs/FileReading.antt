@@ -1,5 +1,5 @@
 -- What a reader of a file keeps, for which histories it stands, and what its calls answer.
-use Rattle.std.specs.Prelude.{◌≡◌, ℕ, ◌+◌, Bool, true, false, List, [], ◌∷◌, ◌++◌, length, Option, Some, None, Result, Ok, Err}
+use Rattle.std.specs.Prelude.{◌≡◌, ℕ, ◌+◌, Bool, true, false, List, [], ◌∷◌, ◌++◌, length, slice_get, Option, Some, None, option_and_then, Result, Ok, Err, if◌then◌else◌}
 use Rattle.cd_block.specs.declared.block.Block.{Block}
 use Rattle.cd_block.specs.declared.params.Params.{Params}
 use Rattle.cd_file.specs.declared.refusal.BadFile.{BadFile}
@@ -74,17 +74,20 @@ abbrev pub Stands : Option BadFile → Kept → List ℕ → List Block → Type
 Stands None r fed given = GoesOn r fed given
 Stands (Some bad) r fed given = IsRefused bad r fed given
 
--- A reader that is not spent stands for the bytes fed and the blocks given.
+-- A reader that is not spent stands for the bytes fed and the blocks given. What the last call for the end gave is the
+-- refusal of a file of just these bytes.
 pub record StandsFor (r : Kept) (fed : List ℕ) (given : List Block) : Type 0 where
   pub unspent : r.is_spent ≡ false
   pub count : length fed ≡ r.fed_count
   pub blocks : length given ≡ r.given_count
   pub stands : Stands r.refused r fed given
+  pub told : (bad : BadFile) → r.ended ≡ Some bad → told_refusal fed ≡ Some bad
 
--- The history after a call of `feed`, for which a spent reader finds no memory; where it finds none, nothing changes.
+-- The history after a call of `feed`: what was said of the end is not said of more bytes. Where no memory was found, nothing
+-- changes.
 abbrev pub Feeds : {U E : Type 0} → Kept → Kept → List ℕ → List Block → Result U E → Type 0
 Feeds old new fed given (Ok u) =
-    StandsFor new fed given × (new.params ≡ old.params) × (new.refused ≡ old.refused)
+    StandsFor new fed given × (new.params ≡ old.params) × (new.refused ≡ old.refused) × (new.ended ≡ None)
 Feeds old new fed given (Err e) = new ≡ old
 
 -- The history after a call of `next_block`. A block is the next one of the file. The other answers say that all blocks were
@@ -100,6 +103,12 @@ Nexts new fed given (Err (fault.Bad bad)) =
     StandsFor new fed given × ((read_file fed).blocks ≡ given) × (refusal_in (read_file fed) ≡ Some bad)
 Nexts new fed given (Err fault.NoMemory) = new.is_spent ≡ true
 
+-- what a call of `next_block` keeps: what was said of the end, and the refusal that it gives
+abbrev pub NextKeeps : Kept → Kept → Result Next FileFault → Type 0
+NextKeeps old new (Ok answer) = (new.ended ≡ old.ended) × (new.refused ≡ None)
+NextKeeps old new (Err (fault.Bad bad)) = (new.ended ≡ old.ended) × (new.refused ≡ Some bad)
+NextKeeps old new (Err fault.NoMemory) = Unit {0}
+
 -- The block parameters that are told after a call of `next_block`: those of the head, once it is whole.
 abbrev pub Tells : Kept → List ℕ → Result Next FileFault → Type 0
 Tells new fed (Ok answer) = new.params ≡ (read_file fed).params
@@ -107,17 +116,26 @@ Tells new fed (Err (fault.Bad bad)) = new.params ≡ (read_file fed).params
 Tells new fed (Err fault.NoMemory) = Unit {0}
 
 -- The history after a call of `end`: where no byte comes after those fed, the file is whole, or this is its refusal.
-abbrev pub Ends : {U : Type 0} → Kept → Kept → List ℕ → List Block → Result U FileFault → Type 0
-Ends old new fed given (Ok u) =
-    StandsFor new fed given × (new.params ≡ old.params) × ((read_file fed).end ≡ Whole)
-Ends old new fed given (Err (fault.Bad bad)) =
-    StandsFor new fed given × (new.params ≡ old.params) × (told_refusal fed ≡ Some bad)
-Ends old new fed given (Err fault.NoMemory) = new.is_spent ≡ true
+abbrev pub Ends : {U : Type 0} → Kept → List ℕ → List Block → Result U FileFault → Type 0
+Ends new fed given (Ok u) = StandsFor new fed given × ((read_file fed).end ≡ Whole)
+Ends new fed given (Err (fault.Bad bad)) = StandsFor new fed given × (told_refusal fed ≡ Some bad)
+Ends new fed given (Err fault.NoMemory) = new.is_spent ≡ true
 
--- a call that gave a refusal gives it again, for which no memory is wanted
-abbrev pub RefusesAgain : {A : Type 0} → Option BadFile → Result A FileFault → Type 0
-RefusesAgain refused result = (bad : BadFile) → refused ≡ Some bad → result ≡ Err (fault.Bad bad)
+-- what a call of `end` keeps: the block parameters told, the refusal that a call for a block gave, and the one that it gives
+abbrev pub EndKeeps : {U : Type 0} → Kept → Kept → Result U FileFault → Type 0
+EndKeeps old new (Ok u) = (new.params ≡ old.params) × (new.refused ≡ old.refused) × (new.ended ≡ None)
+EndKeeps old new (Err (fault.Bad bad)) = (new.params ≡ old.params) × (new.refused ≡ old.refused) × (new.ended ≡ Some bad)
+EndKeeps old new (Err fault.NoMemory) = Unit {0}
 
--- the refusal that a call gave is kept
-abbrev pub KeepsRefusal : {A : Type 0} → Option BadFile → Result A FileFault → Type 0
-KeepsRefusal refused result = (bad : BadFile) → result ≡ Err (fault.Bad bad) → refused ≡ Some bad
+-- a refusal that is kept is the answer again, for which no memory is wanted
+abbrev pub RefusesAgain : {A : Type 0} → Kept → Option BadFile → Result A FileFault → Type 0
+RefusesAgain old refused result = (bad : BadFile) → old.is_spent ≡ false → refused ≡ Some bad → result ≡ Err (fault.Bad bad)
+
+-- a spent reader finds no memory, and stays as it is
+abbrev pub StaysSpent : {A E : Type 0} → E → Kept → Kept → Result A E → Type 0
+StaysSpent none old new result = old.is_spent ≡ true → (result ≡ Err none) × (new ≡ old)
+
+-- the block parameters with this number, among those told by a reader that is not spent
+abbrev pub told_params : Kept → ℕ → Option Params
+told_params r number =
+    if r.is_spent then None else option_and_then (λ entries. slice_get entries number) r.params

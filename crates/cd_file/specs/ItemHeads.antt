@@ -45,9 +45,9 @@ indefinite_head major.Map = Ok (record { kind = major.Map; argument = None }, 1)
 indefinite_head major.Simple = refused 0 why.Break
 indefinite_head kind = refused 0 why.Head
 
--- the head at the front of some bytes, or its fault
-unfoldable pub head_front : List ℕ → Reading ItemHead
-head_front bytes = do
+-- the head of the item at the front of some bytes, or its fault
+unfoldable pub begun_item : List ℕ → Reading ItemHead
+begun_item bytes = do
   first ← byte_at 0 bytes
   if nat_lt (first % 32) 28 then definite_head first bytes
       else (if nat_lt (first % 32) 31 then refused 0 why.Head

@@ -8,7 +8,7 @@ use Rattle.cd_block.specs.Resolving.{Resolving, Unresolved, PastTable, NotName, 
 use Rattle.cd_file.specs.declared.refusal.FileWhy.{FileWhy}
 use Rattle.cd_file.specs.declared.refusal.FileWhy.TheVariants.{Index, Name}
 use Rattle.cd_file.specs.declared.refusal.BadFile.{BadFile}
-use Rattle.cd_file.specs.ReadFile.{FileEnd, Refused, FileRead, read_file, number_after, refusal_at}
+use Rattle.cd_file.specs.ReadFile.{FileEnd, Refused, FileRead, read_file, number_after, refusal_at, told}
 
 -- why a block that does not resolve is refused
 abbrev pub why_unresolved : Unresolved → FileWhy
@@ -48,6 +48,11 @@ kept_in file = record {
 unfoldable pub kept_file : List ℕ → KeptFile
 kept_file bytes = kept_in (read_file bytes)
 
--- the first refusal of such a file
+-- the first refusal of a file whose indexes are looked up
 abbrev pub kept_refusal_in : KeptFile → Option BadFile
 kept_refusal_in file = refusal_at (number_after file.params (length file.blocks)) file.end
+
+-- the first refusal of a file that has no byte after these, and whose indexes are looked up
+abbrev pub told_kept_refusal : List ℕ → Option BadFile
+told_kept_refusal bytes =
+    refusal_at (number_after (kept_file bytes).params (length (kept_file bytes).blocks)) (told (length bytes) (kept_file bytes).end)

@@ -16,3 +16,4 @@ pub mod KeptFile
 pub mod FileReading
 pub mod Readable
 pub mod ReadBack
+pub mod ItemReading

@@ -1,6 +1,6 @@
 -- How a map of a file is read: its entries in the order of their spelling, each into the fields of the map, by a table that
 -- has one line a key (RFC 8618 7.3). What has no line is passed over.
-use Rattle.std.specs.Prelude.{ℕ, nat_eq, ℤ, pos, negsuc, Bool, true, false, not, ◌&&◌, ◌||◌, List, [], ◌∷◌, Option, None, Some, Ok, Err, if◌then◌else◌}
+use Rattle.std.specs.Prelude.{ℕ, ◌+◌, nat_eq, nat_le, ℤ, pos, negsuc, Bool, true, false, not, ◌&&◌, ◌||◌, List, [], ◌∷◌, Option, None, Some, Ok, Err, if◌then◌else◌}
 use Rattle.cd_cbor.specs.declared.item.Item.{Item}
 use Rattle.cd_cbor.specs.declared.item.Item.TheViews.{out-Item}
 use Rattle.cd_file.specs.declared.refusal.FileWhy.TheVariants.{Repeated, Missing}
@@ -12,6 +12,11 @@ pub record Line (F : Type 0) : Type 0 where
   pub key : ℕ
   pub is_required : Bool
   pub read : Item → F → Refusing F
+
+-- the keys of a table are all at or above a number and ascend, so that each has one line
+unfoldable pub ascends_from : {F : Type 0} → ℕ → List (Line F) → Bool
+ascends_from least [] = true
+ascends_from least (line ∷ table) = nat_le least line.key && ascends_from (line.key + 1) table
 
 -- the line of a key
 unfoldable pub line_of : {F : Type 0} → List (Line F) → ℕ → Option (Line F)

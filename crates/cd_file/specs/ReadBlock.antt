@@ -57,7 +57,7 @@ extended_table =
 abbrev pub no_lists : BlockLists
 no_lists = record { question = None; answer = None; authority = None; additional = None }
 
--- the keys of a query-response item; a port, an identifier or a hop limit beyond its range is absent (RFC 8618 7.3.2.4)
+-- the keys of a query-response item (RFC 8618 7.3.2.4); here a port, an identifier or a hop limit beyond its range is absent
 abbrev pub item_table : List (Line BlockItem)
 item_table =
     optional key.ITEM_TIME_OFFSET unsigned (λ n i. record i { time_offset = Some n })
@@ -91,7 +91,7 @@ no_item = record {
   response_extended = no_lists;
 }
 
--- the keys of a malformed message; a port beyond its range is absent (RFC 8618 7.3.2.6)
+-- the keys of a malformed message (RFC 8618 7.3.2.6); here a port beyond its range is absent
 abbrev pub malformed_table : List (Line BlockMalformed)
 malformed_table =
     optional key.MALFORMED_TIME_OFFSET unsigned (λ n m. record m { time_offset = Some n })

@@ -1,5 +1,6 @@
 -- What reading a file gives (RFC 8618 7.3): an array of the text "C-DNS", a preamble and an array of blocks. A file is judged
--- from left to right, each head of its beginning once it is whole, the preamble and each block once they are.
+-- from left to right, each head of its beginning once it is there. The preamble and each block are read once they are whole,
+-- but for a fault of their CBOR and for too many bytes, which are judged where they stand.
 use Rattle.std.specs.Prelude.{◌≡◌, ℕ, zero, suc, ◌+◌, ◌-◌, nat_lt, nat_eq, Bool, true, false, ◌&&◌, List, [], ◌∷◌, ◌++◌, length, take, drop, Option, Some, None, Result, Ok, Err, ok_or, bytes_eq, codes, if◌then◌else◌}
 use Rattle.cd_cbor.specs.Readings.{Reading}
 use Rattle.cd_cbor.specs.Reading.{item_at, content_at}
@@ -17,7 +18,7 @@ use Rattle.cd_file.specs.declared.refusal.BadFile.{BadFile}
 use Rattle.cd_file.specs.Refusing.{Refusing}
 use Rattle.cd_file.specs.ReadHead.{read_params}
 use Rattle.cd_file.specs.ReadBlock.{read_block}
-use Rattle.cd_file.specs.ItemHeads.{ItemHead, head_front, chunk_head}
+use Rattle.cd_file.specs.ItemHeads.{ItemHead, begun_item, chunk_head}
 
 -- How a file ends: whole; open, where its bytes end before it does and hold no refusal; or refused.
 pub data FileEnd : Type 0 where
@@ -83,7 +84,7 @@ begins_with_break (byte ∷ bytes) = nat_eq byte 0xff
 -- the head of an element of the outer array; a break is no fault where it ends the array
 unfoldable pub element_head : Bool → ℕ → List ℕ → Front ItemHead
 element_head is_open at bytes =
-    if is_open && begins_with_break bytes then Err (Refused NotCdns) else judged at (head_front bytes)
+    if is_open && begins_with_break bytes then Err (Refused NotCdns) else judged at (begun_item bytes)
 
 -- the longest preamble or block, in bytes
 abbrev pub most_item : ℕ
@@ -93,8 +94,8 @@ most_item = 134217728
 abbrev pub unfinished_item : List ℕ → FileEnd
 unfinished_item bytes = if nat_lt most_item (length bytes) then Refused TooLarge else Open
 
--- the item at the front, in which so many arrays, maps and tags may be open; what comes first in its bytes decides, a fault
--- or that they are too many
+-- The item at the front, in which so many arrays, maps and tags may be open. What its bytes show first decides, a fault or
+-- that they are too many; where one byte shows both, they are too many.
 unfoldable pub item_front : ℕ → ℕ → List ℕ → Front Item
 item_front depth at bytes =
     judged_or (unfinished_item bytes) at (item_at depth (take most_item bytes) why.Break 0)
@@ -108,7 +109,7 @@ outer_of kind argument = None
 -- the head of the outer array at the front: whether it is open
 unfoldable pub outer_front : List ℕ → Front Bool
 outer_front bytes = do
-  head ← judged 0 (head_front bytes)
+  head ← judged 0 (begun_item bytes)
   is_open ← ok_or (outer_of head.0.kind head.0.argument) (Refused NotCdns)
   Ok (is_open, head.1)
 
@@ -257,7 +258,7 @@ refusal_at number Whole = None
 refusal_at number Open = None
 refusal_at number (Refused reason) = Some (record { block = number; why = reason })
 
--- the first refusal of a file
+-- the first refusal of a file, whose indexes are not looked up
 abbrev pub refusal_in : FileRead → Option BadFile
 refusal_in file = refusal_at (number_after file.params (length file.blocks)) file.end
 
@@ -267,7 +268,7 @@ told count Whole = Whole
 told count Open = Refused (Cbor count)
 told count (Refused reason) = Refused reason
 
--- the first refusal of a file that has no byte after these
+-- the first refusal of a file that has no byte after these, and whose indexes are not looked up
 abbrev pub told_refusal : List ℕ → Option BadFile
 told_refusal bytes =
     refusal_at (number_after (read_file bytes).params (length (read_file bytes).blocks)) (told (length bytes) (read_file bytes).end)

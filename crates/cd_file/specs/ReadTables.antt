@@ -38,7 +38,7 @@ no_signature = record {
   response_rcode = None;
 }
 
--- the keys of a query-response signature; a number beyond its range is absent, but not an index (RFC 8618 7.3.2.3.2)
+-- the keys of a query-response signature (RFC 8618 7.3.2.3.2); here a number beyond its range is absent
 abbrev pub signature_table : List (Line BlockSig)
 signature_table =
     optional key.SIG_SERVER_ADDRESS unsigned (λ n s. record s { server_address = Some n })
@@ -83,7 +83,7 @@ rr_table =
 abbrev pub no_rr : BlockRr
 no_rr = record { name = 0; classtype = 0; ttl = None; rdata = None }
 
--- the keys of the data of a malformed message; a number beyond its range is absent (RFC 8618 7.3.2.3.5)
+-- the keys of the data of a malformed message (RFC 8618 7.3.2.3.5); here a number beyond its range is absent
 abbrev pub malformed_data_table : List (Line BlockData)
 malformed_data_table =
     optional key.MALFORMED_DATA_SERVER_ADDRESS unsigned (λ n d. record d { server_address = Some n })

@@ -1,8 +1,6 @@
 //! A reader of a file that comes in pieces.
 
-
-
-use cd_block::{Block, Params};
+use cd_block::Block;
 
 /// What a reader gives.
 #[derive(Debug, Drop)]
