@@ -25,6 +25,7 @@ use Rattle.cd_cbor.proofs.Offsets.{first_is}
 use Rattle.cd_cbor.proofs.Spelled.{spelling_text}
 use Rattle.cd_cbor.proofs.Written.{head_is_head, item_written}
 use Rattle.cd_block.specs.declared.block.Block.{Block}
+use Rattle.cd_block.specs.declared.kept.KeptBlock.{KeptBlock}
 use Rattle.cd_block.specs.declared.params.Params.{Params}
 use Rattle.cd_file.specs.Head.{preamble_item}
 use Rattle.cd_file.specs.Blocks.{block_item}
@@ -35,7 +36,8 @@ use Rattle.cd_file.specs.ReadHead.{read_params}
 use Rattle.cd_file.specs.ReadBlock.{read_block}
 use Rattle.cd_file.specs.ReadFile.{FileEnd, Whole, Open, FileRead, after_blocks, blockless, element_head, item_front, outer_front, title_head, title_front, title_by, title_on, preamble_front, preamble_on, count_front, array_on, block_front, closing, blocks_on, read_file}
 use Rattle.cd_file.specs.Readable.{ReadableParams, ReadableBlock}
-use Rattle.cd_file.specs.ReadBack.{holding, FileIsReadBack, OpenFileIsReadBack}
+use Rattle.cd_file.specs.KeptFile.{kept_blocks, kept_file}
+use Rattle.cd_file.specs.ReadBack.{holding, FileIsReadBack, OpenFileIsReadBack, AreResolved, FileIsKept}
 use Rattle.cd_file.proofs.Maps.{map_spelled}
 use Rattle.cd_file.proofs.ValuesReadBack.{IsShort}
 use Rattle.cd_file.proofs.BlocksReadBack.{block_read, block_fits}
@@ -261,3 +263,15 @@ file_is_read_back params blocks r all = file_ends params blocks file_end Whole r
 pub open_file_is_read_back : OpenFileIsReadBack
 open_file_is_read_back params blocks r all =
     ap read_file (sym (append-nil (file_begun params blocks))) ∙ file_ends params blocks [] Open r all (open_ends params)
+
+-- blocks that resolve are kept
+blocks_kept : (blocks : List Block) (kept : List KeptBlock) (e : FileEnd) → AreResolved blocks kept → kept_blocks blocks e ≡ (kept, e)
+unfolding kept_blocks
+blocks_kept [] [] e are = refl
+blocks_kept [] (k ∷ kept) e are = absurd are
+blocks_kept (b ∷ blocks) [] e are = absurd are
+blocks_kept (b ∷ blocks) (k ∷ kept) e are = rw (are.0, blocks_kept blocks kept e are.1) refl
+
+pub file_is_kept : FileIsKept
+unfolding kept_file
+file_is_kept params blocks kept r all are = rw (file_is_read_back params blocks r all, blocks_kept blocks kept Whole are) refl
