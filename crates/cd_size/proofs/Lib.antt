@@ -12,3 +12,6 @@ mod Runs
 mod MessageRanges
 mod EventRanges
 mod DatagramRanges
+mod TablesReadable
+mod RecordsReadable
+mod RunsReadable

@@ -6,6 +6,8 @@ use Rattle.cd_block.specs.declared.params.Params.{Params}
 use Rattle.cd_block.specs.Tables.{indexed, tables_of}
 use Rattle.cd_block.specs.Traversal.{visited}
 use Rattle.cd_file.specs.Files.{block_spelling}
+use Rattle.cd_file.specs.ReadFile.{most_item}
+use Rattle.cd_file.specs.Readable.{ReadableBlock}
 use Rattle.cd_hints.specs.Records.{RecordParts}
 use Rattle.cd_ident.specs.declared.event_rules.EventRules.{EventRules}
 use Rattle.cd_ident.specs.Events.{event_parts}
@@ -14,7 +16,7 @@ use Rattle.cd_packet.specs.declared.packet.Packet.{Packet}
 use Rattle.cd_message.specs.MessageLaws.{AreBytes}
 use Rattle.cd_record.specs.Blocks.{kept_block}
 use Rattle.cd_record.specs.Runs.{run_weight}
-use Rattle.cd_size.specs.Ranges.{RecordInRange, DatagramInRange, EventInRange}
+use Rattle.cd_size.specs.Ranges.{RecordInRange, RecordIsTimed, DatagramInRange, EventInRange}
 use Rattle.cd_size.specs.Costs.{item_cost, malformed_cost}
 
 -- a kept block takes at most 205 bytes, and the costs of its items and of its malformed messages
@@ -27,6 +29,11 @@ KeptBlocksAreShort = (b : KeptBlock) → length (block_spelling (indexed b)) ≤
 abbrev pub BlocksAreLight : Type 0
 BlocksAreLight = (p : Params) (run : List RecordParts) → All RecordInRange run →
     length (block_spelling (indexed (kept_block p run))) ≤ run_weight run + 1024
+
+-- the block of a run of little weight is read back from a file, whatever the parameters are
+abbrev pub BlocksAreReadable : Type 0
+BlocksAreReadable = (p : Params) (run : List RecordParts) → All RecordInRange run → All RecordIsTimed run →
+    run_weight run + 1024 ≤ most_item → ReadableBlock (indexed (kept_block p run))
 
 -- the event of a datagram is in range
 abbrev pub EventsAreInRange : Type 0

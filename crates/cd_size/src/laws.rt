@@ -1,6 +1,6 @@
 //! Laws of the sizes of blocks, each the contract of a function that does nothing.
 
-ghost use Rattle.cd_size.specs.Laws.{KeptBlocksAreShort, BlocksAreLight, EventsAreInRange, DatagramsAreInRange};
+ghost use Rattle.cd_size.specs.Laws.{KeptBlocksAreShort, BlocksAreLight, BlocksAreReadable, EventsAreInRange, DatagramsAreInRange};
 
 /// The spelling of a kept block with its tables takes at most 205 bytes and the costs of its items and of its malformed
 /// messages.
@@ -13,6 +13,12 @@ pub fn kept_blocks_are_short()
 /// much as its body, as the event of a datagram does.
 pub fn blocks_are_light()
     ensures { BlocksAreLight }
+{}
+
+/// The block of a run is read back from a file, where its events are in range, their times lie before the end of time,
+/// and the run weighs little enough that the block is no longer than a block may be.
+pub fn blocks_are_read_back()
+    ensures { BlocksAreReadable }
 {}
 
 /// The event of a datagram is in range, where the numbers of the datagram are in the ranges of their types.
