@@ -67,13 +67,13 @@ difference_signed a zero h k = omega (arith, h)
 difference_signed a (suc b) h k = signed_either _ _ _ (omega (arith, h, k)) (omega (arith, h, k))
 
 -- a tick is no more than its time
-tick_low : (ticks : ℕ) (e : EventParts) → EventIsTimed e → tick_of ticks e.time < 2 ^ 63
+pub tick_low : (ticks : ℕ) (e : EventParts) → EventIsTimed e → tick_of ticks e.time < 2 ^ 63
 tick_low ticks e timed =
     let less : tick_of ticks e.time ≤ e.time = div-le_self e.time (second / ticks) in
     let early : e.time < end_of_time = timed.time in omega (arith, less, early)
 
 -- a time offset
-offset_small : (p : Params) (earliest : Stamp) (e : EventParts) → EventIsTimed e → time_offset p earliest e < 2 ^ 64
+pub offset_small : (p : Params) (earliest : Stamp) (e : EventParts) → EventIsTimed e → time_offset p earliest e < 2 ^ 64
 offset_small p earliest e timed = omega (arith, tick_low p.ticks e timed)
 
 -- the times and the sizes of the events of a record
@@ -202,7 +202,7 @@ module _ (t : KeptTables) (few : AreFew t) where
   classtype_used None h = tt
   classtype_used (Some c) h = (h, tt)
 
-  address_used : (o : Option (List ℕ)) → IfSome o (λ content. length content ≤ 16) → AllByRecursion (IsReadable t) (where_present visited_address o)
+  pub address_used : (o : Option (List ℕ)) → IfSome o (λ content. length content ≤ 16) → AllByRecursion (IsReadable t) (where_present visited_address o)
   address_used None h = tt
   address_used (Some content) h = (h, tt)
 

@@ -22,7 +22,7 @@ use Rattle.cd_block.specs.declared.kept.KeptItem.{KeptItem}
 use Rattle.cd_block.specs.declared.kept.KeptMalformed.{KeptMalformed}
 use Rattle.cd_block.specs.Equality.{same_bytes, same_data}
 use Rattle.cd_block.specs.Tables.{KeptTables, tables_of, indexed, indexed_in, indexed_item, indexed_data, indexed_malformed}
-use Rattle.cd_block.specs.Traversal.{Visited, Address, ClassType, NameOrRdata, Signature, QuestionList, Question, RecordList, Record, MalformedData, where_present, visited, visited_item, visited_data, visited_malformed}
+use Rattle.cd_block.specs.Traversal.{Visited, Address, ClassType, NameOrRdata, Signature, QuestionList, Question, RecordList, Record, MalformedData, where_present, visited, visited_address, visited_item, visited_data, visited_malformed}
 use Rattle.cd_ident.specs.Events.{EventParts}
 use Rattle.cd_ident.specs.declared.event.Body.{Body}
 use Rattle.cd_ident.specs.declared.event.Body.TheVariants.{Message, Payload, Nothing}
@@ -77,7 +77,8 @@ module _ (t : KeptTables) (few : AreFew t) (p : Params) (earliest : Stamp) where
       message_data = where_indexed same_data t.malformed_message_data few.malformed_message_data (kept_malformed p earliest (malformed e)).message_data;
     };
     used =
-        all_append (IsReadable t) _ _
+        all_append (IsReadable t) (where_present visited_address (Some (client_address p.prefixes e.client)))
+        (where_present visited_data (Some (kept_data p e)))
         (address_used t few (Some (client_address p.prefixes e.client)) (stored_short (client_prefix p.prefixes e.client.v6) e.client range.client))
         (data_used e range);
   }
