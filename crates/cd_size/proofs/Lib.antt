@@ -10,8 +10,9 @@ mod Halves
 mod Items
 mod Runs
 mod MessageRanges
-mod EventRanges
-mod DatagramRanges
+pub mod EventRanges
+pub mod DatagramRanges
 mod TablesReadable
 mod RecordsReadable
-mod RunsReadable
+pub mod RunsReadable
+pub mod EventTimes

@@ -16,7 +16,7 @@ use Rattle.cd_packet.specs.declared.packet.Packet.{Packet}
 use Rattle.cd_message.specs.MessageLaws.{AreBytes}
 use Rattle.cd_record.specs.Blocks.{kept_block}
 use Rattle.cd_record.specs.Runs.{run_weight}
-use Rattle.cd_size.specs.Ranges.{RecordInRange, RecordIsTimed, DatagramInRange, EventInRange}
+use Rattle.cd_size.specs.Ranges.{RecordInRange, RecordIsTimed, DatagramInRange, EventInRange, EventIsTimed}
 use Rattle.cd_size.specs.Costs.{item_cost, malformed_cost}
 
 -- a kept block takes at most 205 bytes, and the costs of its items and of its malformed messages
@@ -38,6 +38,11 @@ BlocksAreReadable = (p : Params) (run : List RecordParts) → All RecordInRange 
 -- the event of a datagram is in range
 abbrev pub EventsAreInRange : Type 0
 EventsAreInRange = (rules : EventRules) (d : Datagram) → DatagramInRange d → EventInRange (event_parts rules d)
+
+-- the event of the datagram of a packet has its time, which lies before the end of time, and its size
+abbrev pub EventsAreTimed : Type 0
+EventsAreTimed = (rules : EventRules) (p : Packet) (d : Datagram) → layer_of rules.port p ≡ datagram d →
+    length d.payload ≤ 65535 → EventIsTimed (event_parts rules d)
 
 -- the datagram that a packet of bytes holds is in range
 abbrev pub DatagramsAreInRange : Type 0

@@ -1,6 +1,6 @@
 //! Laws of the sizes of blocks, each the contract of a function that does nothing.
 
-ghost use Rattle.cd_size.specs.Laws.{KeptBlocksAreShort, BlocksAreLight, BlocksAreReadable, EventsAreInRange, DatagramsAreInRange};
+ghost use Rattle.cd_size.specs.Laws.{KeptBlocksAreShort, BlocksAreLight, BlocksAreReadable, EventsAreInRange, EventsAreTimed, DatagramsAreInRange};
 
 /// The spelling of a kept block with its tables takes at most 205 bytes and the costs of its items and of its malformed
 /// messages.
@@ -24,6 +24,11 @@ pub fn blocks_are_read_back()
 /// The event of a datagram is in range, where the numbers of the datagram are in the ranges of their types.
 pub fn events_are_in_range()
     ensures { EventsAreInRange }
+{}
+
+/// The time of the event of a packet lies before the end of time, as that of the packet does, and its size has 64 bits.
+pub fn events_are_timed()
+    ensures { EventsAreTimed }
 {}
 
 /// The datagram that a packet holds is in range, where the captured bytes of the packet are bytes.
