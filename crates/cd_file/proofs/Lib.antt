@@ -10,3 +10,4 @@ pub mod BlocksReadBack
 pub mod HeadReadBack
 pub mod FilesReadBack
 pub mod HeadsOf
+pub mod PreambleSize
