@@ -7,10 +7,13 @@ use Rattle.std.proofs.lemmas.Bool.{cases_lt, lt-ltb, le-ltb}
 use Rattle.std.proofs.lemmas.List.Elements.{All-nil, All-cons, All-head, All-tail}
 use Rattle.cd_block.specs.declared.block.Block.{Block}
 use Rattle.cd_block.specs.declared.params.Params.{Params}
+use Rattle.cd_block.proofs.Indexing.{indexed_resolves}
 use Rattle.cd_file.specs.Files.{file_begun, file_of}
 use Rattle.cd_file.specs.ReadFile.{read_file}
 use Rattle.cd_file.specs.Readable.{IsNumber, IsIndex, ReadableParams, ReadableBlock}
-use Rattle.cd_file.proofs.FilesReadBack.{file_is_read_back, open_file_is_read_back}
+use Rattle.cd_file.specs.KeptFile.{kept_file}
+use Rattle.cd_file.specs.ReadBack.{AreResolved}
+use Rattle.cd_file.proofs.FilesReadBack.{file_is_read_back, open_file_is_read_back, file_is_kept}
 use Rattle.cd_file.proofs.PreambleSize.{preamble_short}
 use Rattle.cd_hints.specs.Options.{Admits}
 use Rattle.cd_hints.specs.Records.{RecordParts}
@@ -22,15 +25,17 @@ use Rattle.cd_message.specs.MessageLaws.{AreBytes}
 use Rattle.cd_packet.specs.Layers.{Found, datagram, skipped, layer_of}
 use Rattle.cd_packet.specs.declared.packet.Packet.{Packet}
 use Rattle.cd_pairing.specs.Records.{Record}
+use Rattle.cd_record.specs.Blocks.{kept_block}
 use Rattle.cd_record.specs.Runs.{Limits, limits_of, IsAdmissible, AreRuns}
 use Rattle.cd_size.specs.Ranges.{EventInRange, EventIsTimed, RecordInRange, RecordIsTimed}
 use Rattle.cd_size.proofs.DatagramRanges.{datagrams_in_range}
 use Rattle.cd_size.proofs.EventRanges.{events_in_range}
 use Rattle.cd_size.proofs.EventTimes.{events_timed}
+use Rattle.cd_size.proofs.NamesKept.{blocks_named}
 use Rattle.cd_size.proofs.RunsReadable.{blocks_readable}
 use Rattle.cd_engine.specs.Compactions.{block_of, blocks_of, but_last}
 use Rattle.cd_engine.specs.Events.{rules_of, event_found, event_of, events_of}
-use Rattle.cd_engine.specs.ReadBack.{ParamsInRange, FilesAreReadBack, ClosedPartsAreReadBack}
+use Rattle.cd_engine.specs.ReadBack.{ParamsInRange, FilesAreReadBack, FilesAreKept, ClosedPartsAreReadBack}
 use Rattle.cd_engine.specs.Records.{records_at}
 use Rattle.cd_engine.specs.Refusals.{refusal_at_end, compacted_bytes, compacted_packets, compacted_events}
 use Rattle.cd_engine.proofs.EventsHave.{filter_map_each, of_records, of_runs, each_of}
@@ -163,6 +168,24 @@ files_read_back s bytes file valid range all is =
     ap read_file is.same
     ∙ file_is_read_back s.params (blocks_of s.params is.compaction.runs) (params_readable s valid range)
     (blocks_readable_of s bytes _ is.compaction.runs valid all is.compaction.cut)
+
+-- blocks resolve to the kept blocks of their runs
+runs_resolved : (p : Params) (runs : List (List RecordParts)) → AllByRecursion (λ run. All RecordInRange run) runs →
+    AreResolved (blocks_of p runs) (map (kept_block p) runs)
+runs_resolved p [] range = tt
+runs_resolved p (run ∷ runs) range =
+    (indexed_resolves (kept_block p run) (blocks_named p run range.0), runs_resolved p runs range.1)
+
+-- the law of files with each value in its place
+pub files_kept : FilesAreKept
+files_kept s bytes file valid range all is =
+    let es : List EventParts = compacted_events (rules_of s) bytes in
+    let kept = compacted_kept (rules_of s) bytes all in
+    let runs : List (List RecordParts) = is.compaction.runs in
+    let ranges = of_runs RecordInRange _ runs is.compaction.cut.whole (of_records EventInRange es _ (all_first es kept)) in
+    ap kept_file is.same
+    ∙ file_is_kept s.params (blocks_of s.params runs) (map (kept_block s.params) runs) (params_readable s valid range)
+    (blocks_readable_of s bytes _ runs valid all is.compaction.cut) (runs_resolved s.params runs ranges)
 
 -- the first of some blocks
 first_readable : (p : Params) (n : ℕ) (runs : List (List RecordParts)) → AllByRecursion ReadableBlock (blocks_of p runs) →

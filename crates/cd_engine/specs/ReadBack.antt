@@ -1,12 +1,14 @@
 -- The file of a capture is read back.
-use Rattle.std.specs.Prelude.{◌≡◌, ℕ, ◌<◌, List, length}
+use Rattle.std.specs.Prelude.{◌≡◌, ℕ, ◌<◌, List, length, map}
 use Rattle.std.specs.List.{AllByRecursion}
 use Rattle.cd_block.specs.declared.params.Params.{Params}
 use Rattle.cd_file.specs.ReadFile.{Whole, Open, read_file}
-use Rattle.cd_file.specs.ReadBack.{holding}
+use Rattle.cd_file.specs.KeptFile.{kept_file}
+use Rattle.cd_file.specs.ReadBack.{holding, keeping}
 use Rattle.cd_hints.specs.Validity.{IsValid}
 use Rattle.cd_hints.specs.declared.settings.Settings.{Settings}
 use Rattle.cd_message.specs.MessageLaws.{AreBytes}
+use Rattle.cd_record.specs.Blocks.{kept_block}
 use Rattle.cd_engine.specs.Compactions.{blocks_of, IsFileOf, but_last, IsClosedPartOf}
 
 -- the ranges of block parameters that their types keep
@@ -27,3 +29,9 @@ abbrev pub ClosedPartsAreReadBack : Type 0
 ClosedPartsAreReadBack = (s : Settings) (bytes front : List ℕ) → IsValid s → ParamsInRange s.params → AreBytes bytes →
     (is : IsClosedPartOf s bytes front) →
     read_file front ≡ holding s.params (blocks_of s.params (but_last is.released.runs)) Open
+
+-- With each value in its place, the file is read as the kept blocks of the runs, in their order, and ends whole.
+abbrev pub FilesAreKept : Type 0
+FilesAreKept = (s : Settings) (bytes file : List ℕ) → IsValid s → ParamsInRange s.params → AreBytes bytes →
+    (is : IsFileOf s bytes file) →
+    kept_file file ≡ keeping s.params (map (kept_block s.params) is.compaction.runs) Whole

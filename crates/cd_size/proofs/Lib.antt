@@ -16,3 +16,4 @@ mod TablesReadable
 mod RecordsReadable
 pub mod RunsReadable
 pub mod EventTimes
+pub mod NamesKept

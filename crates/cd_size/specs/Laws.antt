@@ -5,6 +5,7 @@ use Rattle.cd_block.specs.declared.kept.KeptBlock.{KeptBlock}
 use Rattle.cd_block.specs.declared.params.Params.{Params}
 use Rattle.cd_block.specs.Tables.{indexed, tables_of}
 use Rattle.cd_block.specs.Traversal.{visited}
+use Rattle.cd_block.specs.Naming.{BlockNamed}
 use Rattle.cd_file.specs.Files.{block_spelling}
 use Rattle.cd_file.specs.ReadFile.{most_item}
 use Rattle.cd_file.specs.Readable.{ReadableBlock}
@@ -34,6 +35,10 @@ BlocksAreLight = (p : Params) (run : List RecordParts) → All RecordInRange run
 abbrev pub BlocksAreReadable : Type 0
 BlocksAreReadable = (p : Params) (run : List RecordParts) → All RecordInRange run → All RecordIsTimed run →
     run_weight run + 1024 ≤ most_item → ReadableBlock (indexed (kept_block p run))
+
+-- the names of the kept block of a run are names
+abbrev pub BlocksAreNamed : Type 0
+BlocksAreNamed = (p : Params) (run : List RecordParts) → All RecordInRange run → BlockNamed (kept_block p run)
 
 -- the event of a datagram is in range
 abbrev pub EventsAreInRange : Type 0

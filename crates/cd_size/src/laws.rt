@@ -1,6 +1,6 @@
 //! Laws of the sizes of blocks, each the contract of a function that does nothing.
 
-ghost use Rattle.cd_size.specs.Laws.{KeptBlocksAreShort, BlocksAreLight, BlocksAreReadable, EventsAreInRange, EventsAreTimed, DatagramsAreInRange};
+ghost use Rattle.cd_size.specs.Laws.{KeptBlocksAreShort, BlocksAreLight, BlocksAreReadable, BlocksAreNamed, EventsAreInRange, EventsAreTimed, DatagramsAreInRange};
 
 /// The spelling of a kept block with its tables takes at most 205 bytes and the costs of its items and of its malformed
 /// messages.
@@ -19,6 +19,11 @@ pub fn blocks_are_light()
 /// and the run weighs little enough that the block is no longer than a block may be.
 pub fn blocks_are_read_back()
     ensures { BlocksAreReadable }
+{}
+
+/// The names of the kept block of a run are names, as those of valid messages are.
+pub fn blocks_are_named()
+    ensures { BlocksAreNamed }
 {}
 
 /// The event of a datagram is in range, where the numbers of the datagram are in the ranges of their types.
