@@ -1,39 +1,36 @@
 -- The file of a capture is read back.
-use Rattle.std.proofs.Common.{◌≡◌, ℕ, zero, suc, ◌+◌, ◌-◌, ◌*◌, ◌<◌, ◌≤◌, ◌^◌, List, [], ◌∷◌, length, map, take, Option, Some, None, refl, ap, ◌∙◌, arith, subst, inl, inr}
+use Rattle.std.proofs.Common.{◌≡◌, ℕ, zero, suc, ◌+◌, ◌-◌, ◌<◌, ◌≤◌, List, [], ◌∷◌, length, map, take, Option, Some, None, refl, ap, ◌∙◌, arith, subst, inl, inr}
 use Rattle.std.specs.Prelude.{IfSome, IsSomeAnd, slice_index, slice_index_or}
-use Rattle.std.specs.List.{All, AllByRecursion, filter_map, flat_map}
+use Rattle.std.specs.List.{All, AllByRecursion}
 use Rattle.std.specs.List.Sorted.{IsStrictlyIncreasing}
 use Rattle.std.proofs.lemmas.Bool.{cases_lt, lt-ltb, le-ltb}
 use Rattle.std.proofs.lemmas.List.Elements.{All-nil, All-cons, All-head, All-tail}
-use Rattle.cd_block.specs.declared.block.Block.{Block}
 use Rattle.cd_block.specs.declared.params.Params.{Params}
 use Rattle.cd_block.proofs.Indexing.{indexed_resolves}
-use Rattle.cd_file.specs.Files.{file_begun, file_of}
 use Rattle.cd_file.specs.ReadFile.{read_file}
-use Rattle.cd_file.specs.Readable.{IsNumber, IsIndex, ReadableParams, ReadableBlock}
+use Rattle.cd_file.specs.Readable.{ReadableParams, ReadableBlock}
 use Rattle.cd_file.specs.KeptFile.{kept_file}
 use Rattle.cd_file.specs.ReadBack.{AreResolved}
 use Rattle.cd_file.proofs.FilesReadBack.{file_is_read_back, open_file_is_read_back, file_is_kept}
 use Rattle.cd_file.proofs.PreambleSize.{preamble_short}
-use Rattle.cd_hints.specs.Options.{Admits}
 use Rattle.cd_hints.specs.Records.{RecordParts}
 use Rattle.cd_hints.specs.Validity.{IsValid}
 use Rattle.cd_hints.specs.declared.settings.Settings.{Settings}
-use Rattle.cd_ident.specs.Events.{EventParts, event_parts}
+use Rattle.cd_ident.specs.Events.{EventParts}
 use Rattle.cd_ident.specs.declared.event_rules.EventRules.{EventRules}
 use Rattle.cd_message.specs.MessageLaws.{AreBytes}
 use Rattle.cd_packet.specs.Layers.{Found, datagram, skipped, layer_of}
 use Rattle.cd_packet.specs.declared.packet.Packet.{Packet}
 use Rattle.cd_pairing.specs.Records.{Record}
 use Rattle.cd_record.specs.Blocks.{kept_block}
-use Rattle.cd_record.specs.Runs.{Limits, limits_of, IsAdmissible, AreRuns}
+use Rattle.cd_record.specs.Runs.{limits_of, IsAdmissible, AreRuns}
 use Rattle.cd_size.specs.Ranges.{EventInRange, EventIsTimed, RecordInRange, RecordIsTimed}
 use Rattle.cd_size.proofs.DatagramRanges.{datagrams_in_range}
 use Rattle.cd_size.proofs.EventRanges.{events_in_range}
 use Rattle.cd_size.proofs.EventTimes.{events_timed}
 use Rattle.cd_size.proofs.NamesKept.{blocks_named}
 use Rattle.cd_size.proofs.RunsReadable.{blocks_readable}
-use Rattle.cd_engine.specs.Compactions.{block_of, blocks_of, but_last}
+use Rattle.cd_engine.specs.Compactions.{blocks_of, but_last}
 use Rattle.cd_engine.specs.Events.{rules_of, event_found, event_of, events_of}
 use Rattle.cd_engine.specs.ReadBack.{ParamsInRange, FilesAreReadBack, FilesAreKept, ClosedPartsAreReadBack}
 use Rattle.cd_engine.specs.Records.{records_at}
@@ -146,8 +143,7 @@ runs_readable : (s : Settings) → IsValid s → (runs : List (List RecordParts)
     AllByRecursion ReadableBlock (blocks_of s.params runs)
 runs_readable s valid [] range timed admissible = tt
 runs_readable s valid (run ∷ runs) range timed admissible =
-    let fits : IsAdmissible (limits_of s) run = admissible.0 in
-    (
+    let fits : IsAdmissible (limits_of s) run = admissible.0 in (
       blocks_readable s.params run range.0 timed.0 (omega (arith, fits.light, valid.block_bytes.most)),
       runs_readable s valid runs range.1 timed.1 admissible.1,
     )

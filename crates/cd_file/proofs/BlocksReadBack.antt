@@ -1,8 +1,6 @@
 -- A block that is written is read back.
-use Rattle.std.proofs.Common.{◌≡◌, ℕ, suc, ◌<◌, ◌≤◌, ◌^◌, List, [], ◌∷◌, length, map, Option, Some, None, Ok, refl, ap, sym, arith}
+use Rattle.std.proofs.Common.{◌≡◌, ℕ, suc, Some, Ok, refl, ap, sym, arith}
 use Rattle.std.specs.Prelude.{IfSome}
-use Rattle.std.specs.List.{AllByRecursion}
-use Rattle.cd_cbor.specs.Items.{unsigned}
 use Rattle.cd_cbor.specs.Integers.{signed}
 use Rattle.cd_cbor.specs.Fitting.{Fits}
 use Rattle.cd_block.specs.declared.block.Block.{Block}

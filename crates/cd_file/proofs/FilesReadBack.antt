@@ -1,6 +1,6 @@
 -- A file that is written is read back.
-use Rattle.std.proofs.Common.{◌≡◌, ℕ, zero, suc, ◌+◌, ◌-◌, ◌*◌, ◌/◌, ◌%◌, ◌^◌, ◌<◌, ◌≤◌, List, [], ◌∷◌, ◌++◌, length, map, take, drop, Option, Some, None, Ok, refl, ap, sym, subst, ◌∙◌, arith, append_assoc, length-append}
-use Rattle.std.specs.Prelude.{true, false, nat_eq, nat_lt, ◌&&◌, codes, if◌then◌else◌}
+use Rattle.std.proofs.Common.{◌≡◌, ℕ, zero, suc, ◌+◌, ◌-◌, ◌*◌, ◌/◌, ◌%◌, ◌<◌, List, [], ◌∷◌, ◌++◌, length, map, take, drop, Some, None, Ok, refl, ap, sym, ◌∙◌, arith, append_assoc, length-append}
+use Rattle.std.specs.Prelude.{true, false, nat_eq, nat_lt, codes}
 use Rattle.std.specs.List.{concat, AllByRecursion}
 use Rattle.std.specs.Str.{is_utf8, IsAscii}
 use Rattle.std.proofs.lemmas.Bool.{lt-ltb, le-ltb, ne_eqb}
@@ -17,7 +17,7 @@ use Rattle.cd_cbor.specs.Items.{text}
 use Rattle.cd_cbor.specs.Fitting.{Fits}
 use Rattle.cd_cbor.specs.Spelling.{head, spelling}
 use Rattle.cd_cbor.specs.Spells.{Spells}
-use Rattle.cd_cbor.specs.Readings.{byte_at, piece}
+use Rattle.cd_cbor.specs.Readings.{piece}
 use Rattle.cd_cbor.specs.Reading.{item_at, content_at}
 use Rattle.cd_cbor.proofs.HeadsRead.{HeadIs, head_reads, type_of_number, Begins}
 use Rattle.cd_cbor.proofs.ItemsRead.{item_begins, item_reads}
@@ -31,10 +31,8 @@ use Rattle.cd_file.specs.Head.{preamble_item}
 use Rattle.cd_file.specs.Blocks.{block_item}
 use Rattle.cd_file.specs.Files.{file_head, block_spelling, file_end, file_begun, file_of}
 use Rattle.cd_file.specs.Maps.{entries_spelling}
-use Rattle.cd_file.specs.ItemHeads.{ItemHead, is_low_simple, is_too_long, definite_head, indefinite_head, begun_item}
-use Rattle.cd_file.specs.ReadHead.{read_params}
-use Rattle.cd_file.specs.ReadBlock.{read_block}
-use Rattle.cd_file.specs.ReadFile.{FileEnd, Whole, Open, FileRead, after_blocks, blockless, element_head, item_front, outer_front, title_head, title_front, title_by, title_on, preamble_front, preamble_on, count_front, array_on, block_front, closing, blocks_on, read_file}
+use Rattle.cd_file.specs.ItemHeads.{is_too_long, definite_head, indefinite_head, begun_item}
+use Rattle.cd_file.specs.ReadFile.{FileEnd, Whole, Open, after_blocks, blockless, element_head, item_front, outer_front, title_head, title_front, title_on, preamble_front, preamble_on, count_front, array_on, block_front, closing, blocks_on, read_file}
 use Rattle.cd_file.specs.Readable.{ReadableParams, ReadableBlock}
 use Rattle.cd_file.specs.KeptFile.{kept_blocks, kept_file}
 use Rattle.cd_file.specs.ReadBack.{holding, FileIsReadBack, OpenFileIsReadBack, AreResolved, FileIsKept}
@@ -170,11 +168,10 @@ head_split p body =
 head_reads_on : (p : Params) (body : List ℕ) → ReadableParams p →
     (at : ℕ) × (read_file (file_head p ++ body) ≡ blocks_on false (p ∷ []) None 0 at body)
 head_reads_on p body r =
-    let s : List ℕ = spelling (preamble_item p) in
-    (
+    let s : List ℕ = spelling (preamble_item p) in (
       7 + length s + 1,
       ap read_file (head_split p body) ∙ outer_reads_on (spelling (text (codes "C-DNS")) ++ (s ++ (0x9f ∷ body)))
-      ∙ title_on_stands 1 (s ++ (0x9f ∷ body)) ∙ preamble_reads_on 7 p (0x9f ∷ body) r ∙ count_reads_on (7 + length s) p body,
+          ∙ title_on_stands 1 (s ++ (0x9f ∷ body)) ∙ preamble_reads_on 7 p (0x9f ∷ body) r ∙ count_reads_on (7 + length s) p body,
     )
 
 -- bytes that belong to the block before are passed
@@ -211,12 +208,11 @@ block_then p b more at r =
     let whole : s ++ more ≡ begins.0 ∷ (begins.1 ++ more) = ap (λ t. t ++ more) begins.2 in
     let front : block_front 1 at (begins.0 ∷ (begins.1 ++ more)) ≡ Ok (b, length s) = ap (block_front 1 at) (sym whole) ∙ block_stands at b more r in
     let size : length begins.1 ≡ length s - 1 = let l : length s ≡ length (begins.0 ∷ begins.1) = ap length begins.2 in omega (arith, l) in
-    let skip = blocks_skip (p ∷ []) (length s - 1) begins.1 more (at + 1) size in
-    (
+    let skip = blocks_skip (p ∷ []) (length s - 1) begins.1 more (at + 1) size in (
       skip.0,
       ap (blocks_on false (p ∷ []) None 0 at) whole
-      ∙ block_on p at begins.0 (begins.1 ++ more) (b, length s) (ne_eqb begins.0 0xff begins.3) front
-      ∙ ap (after_blocks (b ∷ [])) skip.1,
+          ∙ block_on p at begins.0 (begins.1 ++ more) (b, length s) (ne_eqb begins.0 0xff begins.3) front
+          ∙ ap (after_blocks (b ∷ [])) skip.1,
     )
 
 -- all blocks, and then what follows
@@ -226,8 +222,7 @@ blocks_then p [] more at all = (at, refl)
 blocks_then p (b ∷ bs) more at all =
     let rest : List ℕ = concat (map block_spelling bs) in
     let one = block_then p b (rest ++ more) at all.0 in
-    let others = blocks_then p bs more one.0 all.1 in
-    (
+    let others = blocks_then p bs more one.0 all.1 in (
       others.0,
       ap (blocks_on false (p ∷ []) None 0 at) (append_assoc (block_spelling b) rest more) ∙ one.1 ∙ ap (after_blocks (b ∷ [])) others.1,
     )

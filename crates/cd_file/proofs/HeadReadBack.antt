@@ -1,25 +1,23 @@
 -- The preamble of a file that is written is read back.
-use Rattle.std.proofs.Common.{◌≡◌, ℕ, zero, suc, ◌+◌, ◌*◌, ◌/◌, ◌%◌, ◌^◌, ◌<◌, ◌≤◌, List, [], ◌∷◌, ◌++◌, length, map, Option, Some, None, Ok, inl, inr, refl, ap, sym, subst, ◌∙◌, arith}
-use Rattle.std.specs.Prelude.{true, nat_eq, nat_le, slice_index_or, ℤ, pos, if◌then◌else◌}
+use Rattle.std.proofs.Common.{◌≡◌, ℕ, zero, suc, ◌+◌, ◌*◌, ◌/◌, ◌%◌, ◌^◌, ◌<◌, ◌≤◌, List, [], ◌∷◌, ◌++◌, length, Option, Some, None, Ok, inl, inr, refl, ap, sym, subst, ◌∙◌, arith}
+use Rattle.std.specs.Prelude.{slice_index_or, pos}
 use Rattle.std.specs.List.{AllByRecursion}
 use Rattle.std.proofs.lemmas.Bool.{cases_eq, eq-eqb, ne_eqb, le-leb}
 use Rattle.std.proofs.lemmas.Nat.{mod-pow-add, pow_pos}
 use Rattle.std.proofs.Math.Nat.{mod-lt, mod-eq_of_lt, mod-one, div-eq_of_lt}
-use Rattle.cd_cbor.specs.declared.item.Item.{Item}
-use Rattle.cd_cbor.specs.Items.{unsigned, array}
+use Rattle.cd_cbor.specs.Items.{unsigned}
 use Rattle.cd_cbor.specs.Fitting.{Fits}
 use Rattle.cd_block.specs.declared.hints.Hints.{Hints}
 use Rattle.cd_block.specs.declared.params.Params.{Params}
 use Rattle.cd_file.specs.Kinds.{unsigned as unsigned_kind, unsigned_below, array_of, filled_array_of}
 use Rattle.cd_file.specs.MapReading.{value_read, line_of, map_from}
-use Rattle.cd_file.specs.ReadHead.{no_hints, hints_table, with_opcode, opcode_bits, with_prefix, storage_table, collection_table, parameters_table, no_params, preamble_table, no_preamble, has_ticks, have_ticks, judged_preamble, read_params}
-use Rattle.cd_file.specs.Maps.{number, numbers}
-use Rattle.cd_file.specs.Head.{hints_item, has_opcode, listed_opcode, opcodes_below, unless_zero, prefix, storage_item, collection_entries, parameters_item, preamble_item}
+use Rattle.cd_file.specs.ReadHead.{no_hints, hints_table, with_opcode, opcode_bits, storage_table, collection_table, parameters_table, no_params, preamble_table, no_preamble, have_ticks, read_params}
+use Rattle.cd_file.specs.Maps.{number}
+use Rattle.cd_file.specs.Head.{hints_item, listed_opcode, opcodes_below, unless_zero, prefix, storage_item, collection_entries, parameters_item, preamble_item}
 use Rattle.cd_file.specs.Ranges.{IsByte}
 use Rattle.cd_file.specs.Readable.{ReadableHints, ReadableParams}
 use Rattle.cd_file.proofs.ValuesReadBack.{IsShort, ReadsBack, number_back, below_back, numbers_below_back, filled_array_back}
 use Rattle.cd_file.proofs.MapsReadBack.{Puts, PutsAll, puts_none, puts_more, puts_value, puts_absent, puts_index, puts_option, puts_map, MapReadsBack, map_parts, map_back, said}
-
 
 -- bits of opcodes after others
 bits_append : (before : ℕ) (xs ys : List ℕ) → opcode_bits before (xs ++ ys) ≡ opcode_bits (opcode_bits before xs) ys

@@ -1,5 +1,5 @@
 -- A map that is written is read back: each entry that is there is read by its line into the fields.
-use Rattle.std.proofs.Common.{◌≡◌, ℕ, zero, suc, ◌+◌, ◌<◌, ◌≤◌, ◌^◌, ℤ, pos, List, [], ◌∷◌, ◌++◌, length, map, Option, Some, None, Ok, inl, inr, refl, ap, sym, subst, ◌∙◌, arith, length-append}
+use Rattle.std.proofs.Common.{◌≡◌, ℕ, suc, ◌+◌, ◌<◌, ◌≤◌, ◌^◌, ℤ, pos, List, [], ◌∷◌, ◌++◌, length, map, Option, Some, None, Ok, inl, inr, refl, ap, subst, ◌∙◌, arith, length-append}
 use Rattle.std.specs.Prelude.{Bool, true, false, not, ◌&&◌, ◌||◌, nat_eq, nat_le, nat_lt, is_some, IfSome, if◌then◌else◌}
 use Rattle.std.specs.List.{AllByRecursion}
 use Rattle.std.specs.Option.{option_map}
@@ -7,12 +7,12 @@ use Rattle.std.proofs.lemmas.Bool.{and_parts, or_right, both_ways, cases_eq, eq-
 use Rattle.cd_cbor.specs.declared.item.Item.{Item}
 use Rattle.cd_cbor.specs.declared.item.Item.TheOpen.{Item-F}
 use Rattle.cd_cbor.specs.declared.item.Item.TheViews.{out-Item}
-use Rattle.cd_cbor.specs.Items.{unsigned, array, entries, present}
-use Rattle.cd_cbor.specs.Fitting.{FitsPair, FitsHolder, fits_map, Fits}
+use Rattle.cd_cbor.specs.Items.{unsigned, array, present}
+use Rattle.cd_cbor.specs.Fitting.{FitsPair, fits_map, Fits}
 use Rattle.cd_cbor.specs.Spelling.{head, spelling, spelling_pairs}
 use Rattle.cd_cbor.proofs.Spelled.{spelling_entries}
 use Rattle.cd_file.specs.Kinds.{Kind, unsigned as unsigned_kind, unsigned_if_below, array_of}
-use Rattle.cd_file.specs.MapReading.{Line, value_read, is_met, same_key, Course, entry_by, entries_read, first_missing, complete, fields_of, map_from}
+use Rattle.cd_file.specs.MapReading.{Line, value_read, is_met, entry_by, entries_read, first_missing, fields_of, map_from}
 use Rattle.cd_file.specs.Maps.{map_of, optional_map, optional_array, number, entries_count}
 use Rattle.cd_file.specs.Readable.{IsNumber, IsIndex}
 use Rattle.cd_file.proofs.Maps.{none_present, some_present}

@@ -1,6 +1,5 @@
 -- How long the preamble of a file is.
-use Rattle.std.proofs.Common.{◌≡◌, ℕ, zero, suc, ◌+◌, ◌*◌, ◌/◌, ◌%◌, ◌^◌, ◌<◌, ◌≤◌, List, [], ◌∷◌, ◌++◌, length, map, Option, Some, None, refl, ap, arith, inl, inr, length-append}
-use Rattle.std.specs.Prelude.{nat_eq, nat_lt, true}
+use Rattle.std.proofs.Common.{ℕ, zero, suc, ◌+◌, ◌*◌, ◌/◌, ◌%◌, ◌^◌, ◌<◌, ◌≤◌, List, [], ◌∷◌, ◌++◌, length, map, Some, refl, arith, inl, inr, length-append}
 use Rattle.std.proofs.lemmas.Bool.{cases_eq, eq-eqb, ne_eqb}
 use Rattle.cd_cbor.specs.declared.item.Item.{Item}
 use Rattle.cd_cbor.specs.Items.{unsigned, array}
@@ -9,7 +8,7 @@ use Rattle.cd_cbor.proofs.Spelled.{spelling_unsigned, spelling_array}
 use Rattle.cd_block.specs.declared.hints.Hints.{Hints}
 use Rattle.cd_block.specs.declared.params.Params.{Params}
 use Rattle.cd_file.specs.Head.{hints_item, listed_opcode, opcodes_below, unless_zero, prefix, storage_item, collection_entries, collection_item, parameters_item, preamble_item}
-use Rattle.cd_file.specs.Maps.{map_of, optional_map, numbers, number, entries_count, entries_spelling, entry_spelling}
+use Rattle.cd_file.specs.Maps.{map_of, numbers, entries_count, entry_spelling}
 use Rattle.cd_file.proofs.Maps.{none_present, some_present}
 use Rattle.cd_file.proofs.Sizes.{head_short, entry_some, entry_none, number_entry_short, entries_end, entries_more, map_short}
 

@@ -1,7 +1,6 @@
 -- The tables of a block that are written are read back.
-use Rattle.std.proofs.Common.{◌≡◌, ℕ, suc, ◌<◌, ◌≤◌, ◌^◌, List, [], ◌∷◌, length, map, Option, Some, None, refl, arith}
-use Rattle.std.specs.List.{AllByRecursion}
-use Rattle.cd_cbor.specs.Items.{unsigned, bytes}
+use Rattle.std.proofs.Common.{ℕ, suc, [], Some, refl, arith}
+use Rattle.cd_cbor.specs.Items.{bytes}
 use Rattle.cd_block.specs.declared.block.Block.{Block}
 use Rattle.cd_block.specs.declared.block.BlockData.{BlockData}
 use Rattle.cd_block.specs.declared.block.BlockQuestion.{BlockQuestion}
@@ -14,7 +13,7 @@ use Rattle.cd_file.specs.ReadTables.{classtype_table, no_signature, signature_ta
 use Rattle.cd_file.specs.Maps.{numbers}
 use Rattle.cd_file.specs.Tables.{classtype_item, signature_item, question_item, rr_item, malformed_data_item, table_entries}
 use Rattle.cd_file.specs.Ranges.{ClasstypeInRange}
-use Rattle.cd_file.specs.Readable.{ReadableSignature, ReadableQuestion, ReadableRr, ReadableData, ReadableNumbers, ReadableTables}
+use Rattle.cd_file.specs.Readable.{ReadableSignature, ReadableQuestion, ReadableRr, ReadableData, ReadableTables}
 use Rattle.cd_file.proofs.ValuesReadBack.{ReadsBack, number_back, below_back, bytes_back, short_bytes_back, numbers_back, all_by, all_of}
 use Rattle.cd_file.proofs.MapsReadBack.{PutsAll, puts_none, puts_more, puts_value, puts_option, puts_index, puts_below, puts_array, map_back}
 

@@ -1,5 +1,5 @@
 -- Values that are written are read back: what an item is, and the kinds of values that hold no map.
-use Rattle.std.proofs.Common.{◌≡◌, ℕ, zero, suc, false, ◌+◌, ◌<◌, ◌≤◌, ◌^◌, ℤ, pos, negsuc, List, [], ◌∷◌, ◌++◌, length, map, Option, Some, None, Ok, inl, inr, refl, ap, sym, ◌∙◌, arith, length-append}
+use Rattle.std.proofs.Common.{◌≡◌, ℕ, zero, suc, false, ◌<◌, ◌≤◌, ◌^◌, ℤ, pos, negsuc, List, [], ◌∷◌, ◌++◌, length, map, Some, Ok, inl, inr, refl, ap, sym, ◌∙◌, arith, length-append}
 use Rattle.std.specs.List.{AllByRecursion}
 use Rattle.std.proofs.lemmas.Bool.{lt-ltb, le-leb}
 use Rattle.cd_cbor.specs.declared.item.Item.{Item}
@@ -8,7 +8,7 @@ use Rattle.cd_cbor.specs.declared.item.Item.TheViews.{out-Item, out-roll-Item}
 use Rattle.cd_cbor.specs.declared.item.Item.TheVariants.{rolls-Uint, rolls-Nint, rolls-Bytes, rolls-Array, rolls-Map}
 use Rattle.cd_cbor.specs.Items.{unsigned, negative, bytes, array, entries}
 use Rattle.cd_cbor.specs.Integers.{signed}
-use Rattle.cd_cbor.specs.Fitting.{FitsPlain, fits_unsigned, fits_negative, fits_string, FitsHolder, fits_array, Fits}
+use Rattle.cd_cbor.specs.Fitting.{FitsPlain, fits_unsigned, fits_negative, fits_string, fits_array, Fits}
 use Rattle.cd_cbor.specs.Spelling.{head, spelling, spelling_all}
 use Rattle.cd_cbor.specs.Spells.{Spells}
 use Rattle.cd_cbor.proofs.Spelled.{spelling_bytes, spelling_array}
@@ -16,7 +16,6 @@ use Rattle.cd_cbor.proofs.HeadsRead.{Begins}
 use Rattle.cd_cbor.proofs.ItemsRead.{item_begins}
 use Rattle.cd_cbor.proofs.Written.{item_written}
 use Rattle.cd_block.specs.declared.stamp.Stamp.{Stamp}
-use Rattle.cd_file.specs.Refusing.{Refusing}
 use Rattle.cd_file.specs.Kinds.{Kind, unsigned as unsigned_kind, unsigned_below, unsigned_if_below, signed as signed_kind, byte_string, short_byte_string, each, array_of, filled_array_of, stamp}
 use Rattle.cd_file.specs.Blocks.{stamp_item}
 use Rattle.cd_file.specs.Maps.{numbers}

@@ -1,12 +1,12 @@
 -- The time of an event is that of its packet, which lies before the end of time, and its size is that of a payload.
-use Rattle.std.proofs.Common.{◌≡◌, ℕ, ◌+◌, ◌%◌, ◌/◌, ◌<◌, ◌≤◌, Bool, true, false, nat_lt, nat_eq, ◌&&◌, ◌||◌, not, length, Result, Ok, Err, if◌then◌else◌, refl, ap, sym, ◌∙◌, arith, subst, inl, inr}
+use Rattle.std.proofs.Common.{◌≡◌, ℕ, ◌+◌, ◌%◌, ◌/◌, ◌<◌, Bool, true, false, nat_lt, nat_eq, ◌&&◌, ◌||◌, not, length, Result, Ok, Err, if◌then◌else◌, refl, arith, subst, inl, inr}
 use Rattle.std.specs.Prelude.{slice_index}
 use Rattle.std.proofs.lemmas.Bool.{cases_Bool}
 use Rattle.cd_bytes.specs.Numbers.{be16}
 use Rattle.cd_message.specs.declared.message.Message as dns
 use Rattle.cd_message.specs.declared.message.MsgWhy.{MsgWhy}
 use Rattle.cd_message.specs.Messages.{message_of}
-use Rattle.cd_ident.specs.Events.{EventParts, message_parts, parts_of_reading, event_parts}
+use Rattle.cd_ident.specs.Events.{EventParts, parts_of_reading, event_parts}
 use Rattle.cd_ident.specs.Headers.{opcode_of, is_listed}
 use Rattle.cd_ident.specs.declared.event_rules.EventRules.{EventRules}
 use Rattle.cd_packet.specs.Time.{end_of_time}
@@ -17,7 +17,6 @@ use Rattle.cd_packet.specs.declared.packet.Packet.{Packet}
 use Rattle.cd_packet.specs.declared.packet.When.{When}
 use Rattle.cd_packet.specs.declared.packet.When.TheVariants.{At, Outside, Missing}
 use Rattle.cd_size.specs.Laws.{EventsAreTimed}
-use Rattle.cd_size.specs.Ranges.{EventIsTimed}
 
 -- what was found has this time, if it is a datagram
 HasTime : ℕ → Found → Type 0

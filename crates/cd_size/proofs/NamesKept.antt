@@ -1,7 +1,7 @@
 -- The names in the block of a run are names, as those of valid messages are.
 use Rattle.std.proofs.Common.{ℕ, Bool, true, false, List, [], ◌∷◌, map, drop, Option, Some, None}
 use Rattle.std.specs.Prelude.{IfSome, filter, option_and_then, slice_get, if◌then◌else◌}
-use Rattle.std.specs.Option.{option_map, option_map_or, option_or}
+use Rattle.std.specs.Option.{option_map_or, option_or}
 use Rattle.std.specs.List.{All, AllByRecursion}
 use Rattle.std.proofs.lemmas.List.Elements.{All-head, All-tail}
 use Rattle.cd_name.specs.Names.{IsName}
@@ -9,7 +9,7 @@ use Rattle.cd_message.specs.declared.message.Question.{Question}
 use Rattle.cd_message.specs.declared.message.Rr.{Rr}
 use Rattle.cd_message.specs.declared.message.Message as dns
 use Rattle.cd_message.specs.Valid.{ValidRecord}
-use Rattle.cd_block.specs.Naming.{QuestionsNamed, RecordsNamed, ListsNamed, ItemNamed, BlockNamed}
+use Rattle.cd_block.specs.Naming.{QuestionsNamed, RecordsNamed, ListsNamed, ItemNamed}
 use Rattle.cd_block.specs.declared.hints.Hints.{Hints}
 use Rattle.cd_block.specs.declared.hints.TheConstants as hint
 use Rattle.cd_block.specs.declared.params.Params.{Params}
@@ -18,7 +18,7 @@ use Rattle.cd_hints.specs.Hinted.{is_hinted}
 use Rattle.cd_hints.specs.Items.{kept_item, lead_question, first_question}
 use Rattle.cd_hints.specs.Lists.{kept_question, kept_rr, is_listed_record, kept_records, kept_questions, without_opt, query_lists, response_lists, no_lists}
 use Rattle.cd_hints.specs.Records.{RecordParts, pair, unmatched_query, unmatched_response, malformed, discarded, query_message, response_message, is_item}
-use Rattle.cd_record.specs.Blocks.{kept_items, kept_block}
+use Rattle.cd_record.specs.Blocks.{kept_items}
 use Rattle.cd_record.specs.Earliest.{earliest_time}
 use Rattle.cd_size.specs.Laws.{BlocksAreNamed}
 use Rattle.cd_size.specs.Ranges.{EventInRange, RecordInRange}
@@ -41,9 +41,11 @@ questions_named hints qs names = chosen (is_hinted hints.qr hint.QR_QUESTIONS) q
     each : (xs : List Question) → All IsNamed xs → AllByRecursion IsNamed xs
     each [] all = tt
     each (x ∷ xs) all = (All-head IsNamed x xs all, each xs (All-tail IsNamed x xs all))
+
     after_first : (xs : List Question) → AllByRecursion IsNamed xs → AllByRecursion IsNamed (drop 1 xs)
     after_first [] all = tt
     after_first (x ∷ xs) all = all.1
+
     chosen : (b : Bool) (xs : List Question) → All IsNamed xs → QuestionsNamed (if b then map kept_question (drop 1 xs) else [])
     chosen true xs all = map_all IsNamed (λ q. IsName q.name) kept_question (λ q h. h) (drop 1 xs) (after_first xs (each xs all))
     chosen false xs all = tt
@@ -110,22 +112,19 @@ items_named p earliest [] all = tt
 items_named p earliest (pair query response ∷ run) all =
     let events = All-head RecordInRange (pair query response) run all in
     let q = All-head EventInRange query (response ∷ []) events in
-    let r = only_event response (All-tail EventInRange query (response ∷ []) events) in
-    (
+    let r = only_event response (All-tail EventInRange query (response ∷ []) events) in (
       item_named p earliest (pair query response) (pair_fits query response q r),
       items_named p earliest run (All-tail RecordInRange (pair query response) run all),
     )
 items_named p earliest (unmatched_query e ∷ run) all =
     let range = only_event e (All-head RecordInRange (unmatched_query e) run all) in
-    let message = message_is_fit e.kind e.body range.has_body range.body in
-    (
+    let message = message_is_fit e.kind e.body range.has_body range.body in (
       item_named p earliest (unmatched_query e) (record { main = range; main_fits = message; query_event = range; query = message; response = tt }),
       items_named p earliest run (All-tail RecordInRange (unmatched_query e) run all),
     )
 items_named p earliest (unmatched_response e ∷ run) all =
     let range = only_event e (All-head RecordInRange (unmatched_response e) run all) in
-    let message = message_is_fit e.kind e.body range.has_body range.body in
-    (
+    let message = message_is_fit e.kind e.body range.has_body range.body in (
       item_named p earliest (unmatched_response e) (record { main = range; main_fits = message; query_event = tt; query = tt; response = message }),
       items_named p earliest run (All-tail RecordInRange (unmatched_response e) run all),
     )

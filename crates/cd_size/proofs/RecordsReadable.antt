@@ -1,9 +1,9 @@
 -- What is kept of a record is read back: its numbers, and each value that it uses.
-use Rattle.std.proofs.Common.{◌≡◌, ℕ, zero, suc, ◌+◌, ◌-◌, ◌*◌, ◌/◌, ◌%◌, ◌<◌, ◌≤◌, ◌^◌, Bool, true, false, ℤ, pos, negsuc, List, [], ◌∷◌, ◌++◌, length, map, drop, Option, Some, None, refl, arith}
+use Rattle.std.proofs.Common.{◌≡◌, ℕ, zero, suc, ◌/◌, ◌<◌, ◌≤◌, ◌^◌, Bool, true, false, pos, negsuc, List, [], ◌∷◌, ◌++◌, length, map, drop, Option, Some, None, refl, arith}
 use Rattle.std.specs.Prelude.{IfSome, ◌-ℤ◌, cond, filter, option_and_then, if◌then◌else◌}
 use Rattle.std.specs.List.{All, AllByRecursion, flat_map, find}
 use Rattle.std.specs.Option.{option_map, option_map_or}
-use Rattle.std.proofs.Math.Nat.{div-le_self, mod-le}
+use Rattle.std.proofs.Math.Nat.{div-le_self}
 use Rattle.cd_packet.specs.Time.{end_of_time}
 use Rattle.cd_message.specs.declared.message.Question.{Question}
 use Rattle.cd_message.specs.declared.message.Rr.{Rr}
@@ -20,21 +20,19 @@ use Rattle.cd_block.specs.declared.kept.KeptQuestion.{KeptQuestion}
 use Rattle.cd_block.specs.declared.kept.KeptRr.{KeptRr}
 use Rattle.cd_block.specs.declared.kept.KeptLists.{KeptLists}
 use Rattle.cd_block.specs.declared.kept.KeptItem.{KeptItem}
-use Rattle.cd_block.specs.Equality.{same_bytes, same_classtype, same_question, same_questions, same_record, same_records, same_signature, same_data}
-use Rattle.cd_block.specs.Traversal.{Visited, where_present, visited_address, visited_classtype, visited_bytes, visited_signature, visited_question, visited_questions, visited_record, visited_records, visited_lists, visited_item, visited_data, visited_malformed}
-use Rattle.cd_block.specs.Tables.{KeptTables, question_list_index, record_list_index, indexed_signature, indexed_question, indexed_record, indexed_lists, indexed_item, indexed_data, indexed_malformed}
-use Rattle.cd_hints.specs.Addresses.{client_address, server_address, client_prefix, server_prefix}
-use Rattle.cd_hints.specs.Hinted.{is_hinted, kept}
-use Rattle.cd_hints.specs.Items.{kept_item, kept_malformed, kept_data, kept_signature, query_opt, lead_question, first_question, main_message, ticks_between, response_delay, time_offset}
+use Rattle.cd_block.specs.Equality.{same_bytes, same_classtype, same_question, same_questions, same_record, same_records, same_signature}
+use Rattle.cd_block.specs.Traversal.{Visited, where_present, visited_address, visited_classtype, visited_bytes, visited_signature, visited_question, visited_questions, visited_record, visited_records, visited_lists, visited_item}
+use Rattle.cd_block.specs.Tables.{KeptTables, question_list_index, record_list_index, indexed_signature, indexed_question, indexed_record, indexed_lists, indexed_item}
+use Rattle.cd_hints.specs.Hinted.{is_hinted}
+use Rattle.cd_hints.specs.Items.{kept_item, kept_signature, lead_question, first_question, main_message, response_delay, time_offset}
 use Rattle.cd_hints.specs.Lists.{kept_question, kept_rr, is_listed_record, kept_records, kept_questions, without_opt, query_lists, response_lists, no_lists}
 use Rattle.cd_hints.specs.Records.{RecordParts, pair, unmatched_query, unmatched_response, malformed, discarded, main_event, query_of, response_of, query_message, response_message}
 use Rattle.cd_hints.specs.Ticks.{tick_of, second}
-use Rattle.cd_file.specs.Ranges.{ClasstypeInRange, MalformedInRange, DataInRange}
-use Rattle.cd_file.specs.Readable.{IsNumber, IsIndex, IsSigned, ReadableSignature, ReadableLists, ReadableItem, ReadableData, ReadableMalformed}
-use Rattle.cd_size.specs.Ranges.{QuestionInRange, EventInRange, EventIsTimed}
+use Rattle.cd_file.specs.Ranges.{ClasstypeInRange}
+use Rattle.cd_file.specs.Readable.{IsNumber, IsIndex, IsSigned, ReadableSignature, ReadableLists, ReadableItem}
+use Rattle.cd_size.specs.Ranges.{QuestionInRange, EventIsTimed}
 use Rattle.cd_size.proofs.Fits.{MessageIsFit, RrIsSmall, small_records, ranged_questions, all_filter}
-use Rattle.cd_size.proofs.SignatureRanges.{IsFit, kept_within, mapped, found_opt, ext_rcode_short, transport_flags_short, signature_in_range}
-use Rattle.cd_size.proofs.Parts.{stored_short}
+use Rattle.cd_size.proofs.SignatureRanges.{IsFit, kept_within, mapped, found_opt, ext_rcode_short, signature_in_range}
 use Rattle.cd_size.proofs.Halves.{QuestionIsFit, first_question_fits, either_fits}
 use Rattle.cd_size.proofs.Items.{item_in_range, client_kept, server_kept}
 use Rattle.cd_size.proofs.TablesReadable.{IsReadable, AreFew, map_all, index_small, indexes_small, where_indexed}
@@ -212,9 +210,9 @@ module _ (t : KeptTables) (few : AreFew t) where
   signature_used p r fit = (
     signature_readable p r fit,
     all_append (IsReadable t) _ _
-    (all_append (IsReadable t) _ _ (address_used (kept_signature p r).server_address (server_kept p r fit))
-    (classtype_used (kept_signature p r).classtype (kept_within ClasstypeInRange _ _ _ (lead_classtype r fit))))
-    (bytes_all (kept_signature p r).opt_rdata),
+        (all_append (IsReadable t) _ _ (address_used (kept_signature p r).server_address (server_kept p r fit))
+        (classtype_used (kept_signature p r).classtype (kept_within ClasstypeInRange _ _ _ (lead_classtype r fit))))
+        (bytes_all (kept_signature p r).opt_rdata),
   )
 
 -- what is kept of the questions after the first
@@ -224,6 +222,7 @@ questions_kept hints qs range = chosen (is_hinted hints.qr hint.QR_QUESTIONS) qs
     after_first : (xs : List Question) → AllByRecursion QuestionInRange xs → AllByRecursion QuestionInRange (drop 1 xs)
     after_first [] all = tt
     after_first (x ∷ xs) all = all.1
+
     chosen : (b : Bool) (xs : List Question) → AllByRecursion QuestionInRange xs → AllByRecursion QuestionIsKept (if b then map kept_question (drop 1 xs) else [])
     chosen true xs all =
         map_all QuestionInRange QuestionIsKept kept_question (λ q h. record { rtype = h.rtype; rclass = h.rclass }) (drop 1 xs) (after_first xs all)

@@ -1,8 +1,8 @@
 -- The block of a run is read back.
-use Rattle.std.proofs.Common.{◌≡◌, ℕ, zero, suc, ◌+◌, ◌*◌, ◌/◌, ◌%◌, ◌<◌, ◌≤◌, ◌^◌, Bool, true, false, min, List, [], ◌∷◌, ◌++◌, length, map, Option, Some, None, refl, ap, arith, length-append}
+use Rattle.std.proofs.Common.{ℕ, ◌*◌, ◌/◌, ◌%◌, ◌<◌, ◌≤◌, ◌^◌, Bool, true, false, min, List, [], ◌∷◌, length, map, Option, Some, None, refl, arith, length-append}
 use Rattle.std.specs.Prelude.{IfSome, nat_lt, filter, if◌then◌else◌}
-use Rattle.std.specs.List.{All, AllByRecursion, filter_map, cons_option, reduce, fold, sum_by, count_by, flat_map}
-use Rattle.std.specs.Option.{option_map, option_map_or}
+use Rattle.std.specs.List.{All, AllByRecursion, filter_map, cons_option, reduce, fold, sum_by, flat_map}
+use Rattle.std.specs.Option.{option_map_or}
 use Rattle.std.proofs.Math.Nat.{div-le_self, mod-le}
 use Rattle.std.proofs.lemmas.List.Elements.{All-head, All-tail}
 use Rattle.std.proofs.lemmas.List.Sums.{count_by-le-length, sum_by-cons}
@@ -12,40 +12,37 @@ use Rattle.cd_cbor.specs.Spelling.{head, spelling_all}
 use Rattle.cd_cbor.proofs.Spelled.{spelling_bytes, spelling_array}
 use Rattle.cd_file.specs.Maps.{map_of, entries_count, entries_spelling, numbers}
 use Rattle.cd_file.proofs.Maps.{map_spelled}
-use Rattle.cd_file.specs.Ranges.{MalformedInRange, DataInRange}
-use Rattle.cd_file.specs.Readable.{IsNumber, ReadableStamp, ReadableStats, ReadableItem, ReadableData, ReadableMalformed, ReadableBlock}
+use Rattle.cd_file.specs.Readable.{IsNumber, ReadableStamp, ReadableStats, ReadableItem, ReadableData, ReadableMalformed}
 use Rattle.cd_block.specs.declared.hints.TheConstants as hint
 use Rattle.cd_block.specs.declared.params.Params.{Params}
 use Rattle.cd_block.specs.declared.stamp.Stamp.{Stamp}
 use Rattle.cd_block.specs.declared.kept.KeptBlock.{KeptBlock}
-use Rattle.cd_block.specs.declared.kept.KeptItem.{KeptItem}
 use Rattle.cd_block.specs.declared.kept.KeptMalformed.{KeptMalformed}
 use Rattle.cd_block.specs.Equality.{same_bytes, same_data}
-use Rattle.cd_block.specs.Tables.{KeptTables, tables_of, indexed, indexed_in, indexed_item, indexed_data, indexed_malformed}
+use Rattle.cd_block.specs.Tables.{KeptTables, tables_of, indexed_in, indexed_item, indexed_data, indexed_malformed}
 use Rattle.cd_block.specs.Traversal.{Visited, Address, ClassType, NameOrRdata, Signature, QuestionList, Question, RecordList, Record, MalformedData, where_present, visited, visited_address, visited_item, visited_data, visited_malformed}
 use Rattle.cd_ident.specs.Events.{EventParts}
 use Rattle.cd_ident.specs.declared.event.Body.{Body}
 use Rattle.cd_ident.specs.declared.event.Body.TheVariants.{Message, Payload, Nothing}
-use Rattle.cd_hints.specs.Addresses.{client_address, server_address, client_prefix, server_prefix}
+use Rattle.cd_hints.specs.Addresses.{client_address, client_prefix, server_prefix}
 use Rattle.cd_hints.specs.Hinted.{is_hinted}
 use Rattle.cd_hints.specs.Items.{kept_item, kept_malformed, kept_data}
 use Rattle.cd_hints.specs.Records.{RecordParts, pair, unmatched_query, unmatched_response, malformed, discarded, is_item, is_malformed}
-use Rattle.cd_hints.specs.Ticks.{tick_of}
 use Rattle.cd_record.specs.Blocks.{kept_items, kept_malformed_items, kept_block}
 use Rattle.cd_record.specs.Earliest.{record_tick, earliest_tick, stamp_of, earliest_time}
 use Rattle.cd_record.specs.Runs.{record_weight, run_weight}
 use Rattle.cd_record.specs.Statistics.{statistics, processed_messages, is_unmatched_query, is_unmatched_response, is_discarded}
-use Rattle.cd_size.specs.Costs.{size, value_size, item_cost, malformed_cost}
+use Rattle.cd_size.specs.Costs.{size, value_size}
 use Rattle.cd_size.specs.Laws.{BlocksAreReadable}
 use Rattle.cd_size.specs.Ranges.{EventInRange, EventIsTimed, RecordInRange, RecordIsTimed, body_weight}
-use Rattle.cd_size.proofs.Totals.{total, sum_is_total}
+use Rattle.cd_size.proofs.Totals.{total}
 use Rattle.cd_size.proofs.Fits.{message_is_fit}
-use Rattle.cd_size.proofs.SignatureRanges.{IsFit, mapped, transport_flags_short}
+use Rattle.cd_size.proofs.SignatureRanges.{mapped, transport_flags_short}
 use Rattle.cd_size.proofs.Parts.{stored_short}
 use Rattle.cd_size.proofs.Blocks.{visits_of_block, items_in_turn, malformed_in_turn}
 use Rattle.cd_size.proofs.Runs.{pair_fits, only_event, run_costs, blocks_light}
 use Rattle.cd_size.proofs.TablesReadable.{IsReadable, AreFew, map_all, tables_few, tables_readable, where_indexed}
-use Rattle.cd_size.proofs.RecordsReadable.{all_append, all_flat_map, tick_low, offset_small, IsTimed, ItemIsRead, address_used, item_read}
+use Rattle.cd_size.proofs.RecordsReadable.{all_append, all_flat_map, tick_low, offset_small, ItemIsRead, address_used, item_read}
 
 -- a malformed message, and what it uses
 record MalformedIsRead (t : KeptTables) (m : KeptMalformed) : Type 0 where
@@ -93,29 +90,26 @@ module _ (t : KeptTables) (few : AreFew t) (p : Params) (earliest : Stamp) where
       let r = only_event response (All-tail EventInRange query (response ∷ []) events) in
       let times = All-head RecordIsTimed (pair query response) run timed in
       let qt : EventIsTimed query = All-head EventIsTimed query (response ∷ []) times in
-      let rt : EventIsTimed response = All-head EventIsTimed response [] (All-tail EventIsTimed query (response ∷ []) times) in
-      (
+      let rt : EventIsTimed response = All-head EventIsTimed response [] (All-tail EventIsTimed query (response ∷ []) times) in (
         item_read t few p earliest (pair query response) (pair_fits query response q r) (record { main = qt; query = qt; response = rt }),
         items_read run (All-tail RecordInRange (pair query response) run all) (All-tail RecordIsTimed (pair query response) run timed),
       )
   items_read (unmatched_query e ∷ run) all timed =
       let range = only_event e (All-head RecordInRange (unmatched_query e) run all) in
       let message = message_is_fit e.kind e.body range.has_body range.body in
-      let time : EventIsTimed e = All-head EventIsTimed e [] (All-head RecordIsTimed (unmatched_query e) run timed) in
-      (
+      let time : EventIsTimed e = All-head EventIsTimed e [] (All-head RecordIsTimed (unmatched_query e) run timed) in (
         item_read t few p earliest (unmatched_query e)
-        (record { main = range; main_fits = message; query_event = range; query = message; response = tt })
-        (record { main = time; query = time; response = tt }),
+            (record { main = range; main_fits = message; query_event = range; query = message; response = tt })
+            (record { main = time; query = time; response = tt }),
         items_read run (All-tail RecordInRange (unmatched_query e) run all) (All-tail RecordIsTimed (unmatched_query e) run timed),
       )
   items_read (unmatched_response e ∷ run) all timed =
       let range = only_event e (All-head RecordInRange (unmatched_response e) run all) in
       let message = message_is_fit e.kind e.body range.has_body range.body in
-      let time : EventIsTimed e = All-head EventIsTimed e [] (All-head RecordIsTimed (unmatched_response e) run timed) in
-      (
+      let time : EventIsTimed e = All-head EventIsTimed e [] (All-head RecordIsTimed (unmatched_response e) run timed) in (
         item_read t few p earliest (unmatched_response e)
-        (record { main = range; main_fits = message; query_event = tt; query = tt; response = message })
-        (record { main = time; query = tt; response = time }),
+            (record { main = range; main_fits = message; query_event = tt; query = tt; response = message })
+            (record { main = time; query = tt; response = time }),
         items_read run (All-tail RecordInRange (unmatched_response e) run all) (All-tail RecordIsTimed (unmatched_response e) run timed),
       )
   items_read (malformed e ∷ run) all timed =
@@ -129,7 +123,7 @@ module _ (t : KeptTables) (few : AreFew t) (p : Params) (earliest : Stamp) where
   malformed_all [] all timed = tt
   malformed_all (malformed e ∷ run) all timed = (
     malformed_read e (only_event e (All-head RecordInRange (malformed e) run all))
-    (All-head EventIsTimed e [] (All-head RecordIsTimed (malformed e) run timed)),
+        (All-head EventIsTimed e [] (All-head RecordIsTimed (malformed e) run timed)),
     malformed_all run (All-tail RecordInRange (malformed e) run all) (All-tail RecordIsTimed (malformed e) run timed),
   )
   malformed_all (pair query response ∷ run) all timed =

@@ -1,18 +1,15 @@
 -- The tables of values are read back, where each value is.
-use Rattle.std.proofs.Common.{◌≡◌, ℕ, ◌+◌, ◌<◌, ◌≤◌, ◌^◌, Bool, true, false, List, [], ◌∷◌, length, map, Option, Some, None, refl, arith}
-use Rattle.std.specs.Prelude.{IfSome, not, filter, position, unwrap_or, if◌then◌else◌}
-use Rattle.std.specs.List.{AllByRecursion, filter_map, cons_option}
+use Rattle.std.proofs.Common.{◌≡◌, ℕ, ◌+◌, ◌<◌, ◌≤◌, ◌^◌, Bool, List, [], ◌∷◌, length, map, Option, Some, None, refl, arith}
+use Rattle.std.specs.Prelude.{IfSome, not, position, unwrap_or}
+use Rattle.std.specs.List.{AllByRecursion, cons_option}
 use Rattle.std.specs.Option.{option_map}
 use Rattle.std.proofs.lemmas.List.Quantifiers.{position-Some}
-use Rattle.cd_block.specs.declared.block.Block.{Block}
 use Rattle.cd_block.specs.declared.kept.KeptBlock.{KeptBlock}
-use Rattle.cd_block.specs.declared.kept.KeptQuestion.{KeptQuestion}
-use Rattle.cd_block.specs.declared.kept.KeptRr.{KeptRr}
 use Rattle.cd_block.specs.Equality.{same_bytes, same_classtype, same_question, same_questions, same_record, same_records, same_signature, same_data}
 use Rattle.cd_block.specs.Traversal.{Visited, Address, ClassType, NameOrRdata, Signature, QuestionList, Question, RecordList, Record, MalformedData, used, as_address, as_classtype, as_bytes, as_signature, as_question_list, as_question, as_record_list, as_record, as_data}
-use Rattle.cd_block.specs.Tables.{KeptTables, table_of, index_in, tables_of, address_index, classtype_index, bytes_index, signature_index, question_index, record_index, data_index, question_list_index, record_list_index, indexed_signature, indexed_question, indexed_record, indexed_data, indexed_in}
+use Rattle.cd_block.specs.Tables.{KeptTables, table_of, index_in, tables_of, question_index, record_index, indexed_signature, indexed_question, indexed_record, indexed_data, indexed_in}
 use Rattle.cd_file.specs.Ranges.{ClasstypeInRange}
-use Rattle.cd_file.specs.Readable.{IsNumber, IsIndex, ReadableSignature, ReadableQuestion, ReadableRr, ReadableData, ReadableNumbers, ReadableTables}
+use Rattle.cd_file.specs.Readable.{ReadableSignature, ReadableQuestion, ReadableRr, ReadableData, ReadableNumbers, ReadableTables}
 use Rattle.cd_size.proofs.Fits.{all_filter}
 use Rattle.cd_size.proofs.Lists.{length_filter_few}
 
