@@ -1,12 +1,11 @@
 -- A head or a chunk has a byte at least.
-use Rattle.std.proofs.Common.{◌≡◌, ℕ, ◌-◌, ◌/◌, ◌%◌, ◌<◌, ◌≤◌, Bool, true, false, cond, List, length, Option, Some, None, Result, Ok, Err, refl, ap, arith}
+use Rattle.std.proofs.Common.{◌≡◌, ℕ, ◌-◌, ◌/◌, ◌%◌, ◌<◌, Bool, true, false, cond, List, length, Option, Some, None, Result, Ok, Err, refl, ap, arith}
 use Rattle.std.specs.Prelude.{nat_lt, nat_eq, ◌&&◌}
 use Rattle.cd_cbor.specs.Heads.{major_type}
 use Rattle.cd_cbor.specs.Spells.{most_depth}
-use Rattle.cd_cbor.specs.Readings.{Reading, ◌>>=◌, refused, byte_at}
+use Rattle.cd_cbor.specs.Readings.{Reading, ◌>>=◌, byte_at}
 use Rattle.cd_cbor.specs.Reading.{argument_at, string_at, chunk_at}
 use Rattle.cd_cbor.specs.Events.{Open, break_front, string_front, definite_front, indefinite_front, head_front, chunk_front, step_in, front_step, innermost}
-use Rattle.cd_cbor.specs.declared.event.Event.{Event}
 use Rattle.cd_cbor.specs.declared.wanted.Wanted.{Wanted}
 use Rattle.cd_cbor.specs.declared.wanted.Wanted.TheVariants as wanted
 use Rattle.cd_cbor.specs.declared.fault.CborFault.{CborFault}

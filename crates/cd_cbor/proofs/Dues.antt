@@ -1,21 +1,20 @@
 -- What is due after an item of what is open.
-use Rattle.std.proofs.Common.{◌≡◌, ℕ, zero, suc, ◌+◌, ◌-◌, ◌<◌, ◌≤◌, Bool, true, false, cond, List, [], ◌∷◌, length, drop, Some, None, Result, Ok, Err, refl, ap, sym, ◌∙◌, arith}
+use Rattle.std.proofs.Common.{◌≡◌, ℕ, zero, suc, ◌+◌, ◌-◌, ◌<◌, ◌≤◌, Bool, true, false, cond, List, [], ◌∷◌, length, Some, None, Result, Ok, Err, refl, ap, ◌∙◌, arith}
 use Rattle.std.specs.Prelude.{nat_eq, All}
 use Rattle.std.proofs.lemmas.Bool.{le-ltb}
-use Rattle.cd_cbor.specs.Readings.{Reading, ◌>>=◌, refused, ends, byte_at, times, until_break}
+use Rattle.cd_cbor.specs.Readings.{Reading, ◌>>=◌, ends, byte_at, times, until_break}
 use Rattle.cd_cbor.specs.Reading.{ItemReader, entry_at, item_at}
-use Rattle.cd_cbor.specs.Events.{passed, innermost}
-use Rattle.cd_cbor.specs.Scanning.{all_left, due_by, break_fault, all_due, due_after}
+use Rattle.cd_cbor.specs.Events.{passed}
+use Rattle.cd_cbor.specs.Scanning.{all_left, due_by, all_due, due_after}
 use Rattle.cd_cbor.specs.declared.item.Item.{Item}
 use Rattle.cd_cbor.specs.declared.wanted.Wanted.{Wanted}
 use Rattle.cd_cbor.specs.declared.wanted.Wanted.TheVariants as wanted
-use Rattle.cd_cbor.specs.declared.scan.Due.TheVariants as due
 use Rattle.cd_cbor.specs.declared.fault.Why.{Why}
 use Rattle.cd_cbor.specs.declared.fault.Why.TheVariants as why
 use Rattle.cd_cbor.specs.declared.fault.CborFault.{CborFault}
 use Rattle.cd_cbor.proofs.Binds.{bind_ok, bind_same, ok_same}
 use Rattle.cd_cbor.proofs.Growing.{item_within}
-use Rattle.cd_cbor.proofs.Follow.{passed_items, passed_last, passed_key, passed_pair, passed_last_pair, passed_element, passed_open_key, passed_value}
+use Rattle.cd_cbor.proofs.Follow.{passed_items, passed_pair}
 
 -- readings that go on in the same way after what is read are the same
 bind_after : {A B : Type 0} (r : Result A CborFault) (f g : A → Result B CborFault) → ((x : A) → r ≡ Ok x → f x ≡ g x) → (r >>= f) ≡ (r >>= g)

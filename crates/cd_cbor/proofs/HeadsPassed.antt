@@ -1,5 +1,5 @@
 -- What is due ends where the head at its front, or the chunk, says that it goes on.
-use Rattle.std.proofs.Common.{◌≡◌, ℕ, zero, suc, ◌+◌, ◌-◌, ◌/◌, ◌%◌, ◌<◌, ◌≤◌, Bool, true, false, cond, List, [], ◌∷◌, length, drop, Option, Some, None, Result, Ok, Err, inl, inr, refl, ap, sym, subst, ◌∙◌, arith}
+use Rattle.std.proofs.Common.{◌≡◌, ℕ, zero, suc, ◌+◌, ◌-◌, ◌/◌, ◌%◌, ◌<◌, ◌≤◌, Bool, true, false, cond, List, [], ◌∷◌, length, drop, Some, None, Result, Ok, Err, inl, inr, refl, ap, sym, ◌∙◌, arith}
 use Rattle.std.specs.Prelude.{nat_lt, nat_eq, ◌&&◌, All}
 use Rattle.std.proofs.lemmas.Bool.{cases_eq, cases_Bool, eq-eqb, ne_eqb, ltb-false}
 use Rattle.cd_cbor.specs.MajorTypes.{major_number}
@@ -7,9 +7,9 @@ use Rattle.cd_cbor.specs.Heads.{major_type}
 use Rattle.cd_cbor.specs.Items.{unsigned, negative}
 use Rattle.cd_cbor.specs.Spells.{other, string_item}
 use Rattle.cd_cbor.specs.Readings.{Reading, ◌>>=◌, refused, piece, byte_at, times, until_break}
-use Rattle.cd_cbor.specs.Reading.{ItemReader, opened, argument_at, string_at, chunk_at, joined, chunks_at, definite_string_at, chunked_string_at, simple_at, entry_at, array_of, map_of, array_at, map_at, tagged_at, open_array_at, open_map_at, definite_at, indefinite_at, item_by, item_at}
-use Rattle.cd_cbor.specs.Events.{passed, acted, array_act, map_act, simple_event, string_event, break_front, innermost, string_front, definite_front, indefinite_front, head_front}
-use Rattle.cd_cbor.specs.Scanning.{all_left, due_by, break_fault, all_due, done_of, done_front, due_after, after_done, due_front}
+use Rattle.cd_cbor.specs.Reading.{opened, argument_at, string_at, chunk_at, joined, chunks_at, definite_string_at, chunked_string_at, simple_at, entry_at, array_of, map_of, array_at, map_at, tagged_at, open_array_at, open_map_at, definite_at, indefinite_at, item_by, item_at}
+use Rattle.cd_cbor.specs.Events.{acted, array_act, map_act, simple_event, string_event, break_front, innermost, string_front, definite_front, indefinite_front, head_front}
+use Rattle.cd_cbor.specs.Scanning.{all_left, due_by, break_fault, all_due, done_of, done_front, after_done, due_front}
 use Rattle.cd_cbor.specs.declared.item.Item.{Item}
 use Rattle.cd_cbor.specs.declared.event.Event.{Event}
 use Rattle.cd_cbor.specs.declared.event.Event.TheVariants as event
@@ -32,7 +32,7 @@ use Rattle.cd_cbor.proofs.Binds.{bind_same, ok_same}
 use Rattle.cd_cbor.proofs.Stands.{byte_small, number_of_type}
 use Rattle.cd_cbor.proofs.Depths.{item_at_is}
 use Rattle.cd_cbor.proofs.Moved.{fault_moved, moved_by, further, chunk_further, byte_moved, argument_moved, string_moved, chunk_moved}
-use Rattle.cd_cbor.proofs.FollowItems.{front_byte, ChunkIs, chunk_is, array_none, array_some, map_none, map_some}
+use Rattle.cd_cbor.proofs.FollowItems.{front_byte, chunk_is, array_none, array_some, map_none, map_some}
 use Rattle.cd_cbor.proofs.Dues.{bind_assoc, times_none, until_on, items_due, last_due, pair_due, element_due, value_due, passed_due}
 
 -- where all ends after a head that does this, up to this offset

@@ -1,11 +1,12 @@
 -- What a scan keeps stands for the bytes so far.
-use Rattle.std.proofs.Common.{◌≡◌, ℕ, ◌+◌, ◌-◌, ◌<◌, ◌≤◌, Bool, true, false, List, [], ◌∷◌, ◌++◌, length, drop, Result, Ok, Err, refl, ap, sym, subst, ◌∙◌, arith, append_assoc, append-nil, length-append}
+use Rattle.std.proofs.Common.{◌≡◌, ℕ, ◌+◌, ◌-◌, ◌<◌, ◌≤◌, true, false, List, [], ◌++◌, length, drop, Result, Ok, Err, refl, ap, sym, subst, ◌∙◌, arith, append_assoc, append-nil, length-append}
 use Rattle.std.specs.Prelude.{nat_eq, All}
 use Rattle.std.proofs.lemmas.List.{drop-append-le}
 use Rattle.cd_cbor.specs.Readings.{Reading, ◌>>=◌, refused}
 use Rattle.cd_cbor.specs.Reading.{item_at}
 use Rattle.cd_cbor.specs.Events.{innermost}
-use Rattle.cd_cbor.specs.Scanning.{end_of, all_left, due_by, all_due, done_of, due_front, Mark, IsMarked, Passes, LiesBefore, TellsFault, Judges}
+use Rattle.cd_cbor.specs.Ends.{end_of}
+use Rattle.cd_cbor.specs.Scanning.{all_left, due_by, all_due, done_of, due_front, Mark, IsMarked, Passes, LiesBefore, TellsFault, Judges}
 use Rattle.cd_cbor.specs.declared.item.Item.{Item}
 use Rattle.cd_cbor.specs.declared.wanted.Wanted.{Wanted}
 use Rattle.cd_cbor.specs.declared.event.Told.{Told}

@@ -5,7 +5,7 @@ use Rattle.std.proofs.lemmas.List.{drop-append-le}
 use Rattle.cd_cbor.specs.Readings.{refused}
 use Rattle.cd_cbor.specs.Events.{Open, nothing_open, front_step}
 use Rattle.cd_cbor.specs.Following.{Leads, begins, goes_on, tells, Stops, position_after}
-use Rattle.cd_cbor.specs.OnePath.{OneHistory, HistoriesAreOne, HistoriesStay, StopsOnce, StopsAreOne}
+use Rattle.cd_cbor.specs.OnePath.{OneHistory, HistoriesAreOne, HistoriesStay, StopsAreOne}
 use Rattle.cd_cbor.specs.declared.event.Event.{Event}
 use Rattle.cd_cbor.specs.declared.fault.Why.{Why}
 use Rattle.cd_cbor.specs.declared.fault.Why.TheVariants as why
@@ -128,8 +128,8 @@ one_history fed q r (inr h) =
     let b = between fed h.0 r q h.1 in
     record {
       front = λ order.
-      let there : r.at ≡ q.at = omega (arith, b.on) in
-      let s : r ≡ q = same_place fed h.0 r q h.1 there in ([], ap (λ (p : Place). p.given) s ∙ sym (append-nil q.given));
+          let there : r.at ≡ q.at = omega (arith, b.on) in
+          let s : r ≡ q = same_place fed h.0 r q h.1 there in ([], ap (λ (p : Place). p.given) s ∙ sym (append-nil q.given));
       same = λ there. let s : r ≡ q = same_place fed h.0 r q h.1 (sym there) in (sym (ap (λ (p : Place). p.given) s), sym (ap (λ (p : Place). p.now) s), sym (ap (λ (p : Place). p.position) s));
       position_is = λ e. sym (b.position_is (sym e));
     }
@@ -171,12 +171,12 @@ same_fault {A} place other reason another h = cc
 pub stops_are_one : StopsAreOne
 stops_are_one fed given at reason s = record {
   once = λ other next another t.
-  let first = to_stop fed given at reason s other t.now t.position next t.leads in
-  let second = to_stop fed other next another t given s.now s.position at s.leads in
-  let there : at ≡ next = omega (arith, first.0, second.0) in
-  let one = (histories_are_one fed given other s.now t.now s.position t.position at next s.leads t.leads).same there in
-  let stops : front_step t.now (drop next fed) ≡ refused s.place reason = subst (λ n. front_step t.now (drop n fed) ≡ refused s.place reason) there (subst (λ o. front_step o (drop at fed) ≡ refused s.place reason) one.1 s.stops) in
-  (one.0, there, same_fault s.place t.place reason another (sym stops ∙ t.stops));
+      let first = to_stop fed given at reason s other t.now t.position next t.leads in
+      let second = to_stop fed other next another t given s.now s.position at s.leads in
+      let there : at ≡ next = omega (arith, first.0, second.0) in
+      let one = (histories_are_one fed given other s.now t.now s.position t.position at next s.leads t.leads).same there in
+      let stops : front_step t.now (drop next fed) ≡ refused s.place reason = subst (λ n. front_step t.now (drop n fed) ≡ refused s.place reason) there (subst (λ o. front_step o (drop at fed) ≡ refused s.place reason) one.1 s.stops) in
+      (one.0, there, same_fault s.place t.place reason another (sym stops ∙ t.stops));
   last = λ other later position next leads. to_stop fed given at reason s other later position next leads;
   stays = λ apart more. record {
     now = s.now;

@@ -1,12 +1,12 @@
 -- An item that some bytes spell fits.
-use Rattle.std.proofs.Common.{◌≡◌, ℕ, zero, suc, ◌+◌, ◌^◌, ◌<◌, ◌≤◌, Bool, true, false, List, [], ◌∷◌, ◌++◌, length, inl, inr, refl, ap, ◌∙◌, arith, length-append}
+use Rattle.std.proofs.Common.{◌≡◌, ℕ, zero, suc, ◌^◌, ◌<◌, ◌≤◌, Bool, true, false, List, [], ◌∷◌, ◌++◌, length, inl, inr, refl, ap, ◌∙◌, arith, length-append}
 use Rattle.std.specs.List.{concat, AllByRecursion}
 use Rattle.std.proofs.lemmas.Str.{IsUtf8-append, IsUtf8-nil, IsUtf8-from_is_utf8, is_utf8-from_IsUtf8}
 use Rattle.cd_cbor.specs.Spells.{Each, SpellsPair, SpellsString, SpellsPlain, is_unsigned, is_negative, is_string, is_chunked, is_simple, SpellsHolder, is_array, is_open_array, is_map, is_open_map, is_tagged, Spells, is_content, indefinite}
-use Rattle.cd_cbor.specs.Fitting.{FitsPlain, fits_unsigned, fits_negative, fits_string, fits_other, FitsPair, FitsHolder, fits_array, fits_map, Fits}
+use Rattle.cd_cbor.specs.Fitting.{FitsPlain, fits_unsigned, fits_negative, fits_string, fits_other, FitsPair, fits_array, fits_map, Fits}
 use Rattle.cd_cbor.specs.declared.item.Item.{Item}
 use Rattle.cd_cbor.specs.declared.major_type.MajorType.TheVariants as major
-use Rattle.cd_cbor.proofs.EachRead.{AllBegin, each_length}
+use Rattle.cd_cbor.proofs.EachRead.{each_length}
 use Rattle.cd_cbor.proofs.ItemsRead.{item_begins, pair_begins}
 
 -- texts one after the other are a text

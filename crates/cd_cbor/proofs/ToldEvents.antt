@@ -1,5 +1,5 @@
 -- The events of an item that stands next are those that are told.
-use Rattle.std.proofs.Common.{◌≡◌, ℕ, zero, suc, ◌+◌, ◌*◌, ◌-◌, ◌/◌, ◌%◌, ◌<◌, ◌≤◌, Bool, true, false, List, [], ◌∷◌, ◌++◌, length, drop, Option, Some, None, Ok, inl, inr, refl, ap, sym, subst, ◌∙◌, arith, append_assoc, length-append, append-nil}
+use Rattle.std.proofs.Common.{◌≡◌, ℕ, zero, suc, ◌+◌, ◌*◌, ◌-◌, ◌/◌, ◌%◌, ◌≤◌, Bool, true, false, List, [], ◌∷◌, ◌++◌, length, drop, Some, None, Ok, inl, inr, refl, ap, sym, subst, ◌∙◌, arith, append_assoc, length-append, append-nil}
 use Rattle.std.specs.Prelude.{nat_lt, nat_eq, ◌&&◌}
 use Rattle.std.specs.List.{concat}
 use Rattle.std.proofs.lemmas.Bool.{cases_eq, lt-ltb, le-ltb, eq-eqb, ne_eqb}
@@ -7,15 +7,14 @@ use Rattle.std.proofs.lemmas.List.{length-drop}
 use Rattle.cd_cbor.specs.MajorTypes.{major_number}
 use Rattle.cd_cbor.specs.Heads.{IsHead, major_type, argument_size}
 use Rattle.cd_cbor.specs.Spells.{Each, SpellsPair, SpellsString, SpellsChunks, SpellsPlain, is_unsigned, is_negative, is_string, is_chunked, is_simple, SpellsHolder, is_array, is_open_array, is_map, is_open_map, is_tagged, Spells, string_type, indefinite, most_string}
-use Rattle.cd_cbor.specs.Readings.{Reading, ◌>>=◌, byte_at}
+use Rattle.cd_cbor.specs.Readings.{◌>>=◌, byte_at}
 use Rattle.cd_cbor.specs.Reading.{argument_at, string_at, chunk_at}
-use Rattle.cd_cbor.specs.Events.{Open, passed, acted, array_act, map_act, string_event, simple_event, break_front, innermost, string_front, definite_front, indefinite_front, front_step}
+use Rattle.cd_cbor.specs.Events.{Open, passed, acted, array_act, map_act, string_event, simple_event, innermost, string_front, definite_front, indefinite_front, front_step}
 use Rattle.cd_cbor.specs.Telling.{Events, plain_events, each_events, pair_events, holder_events, item_events}
 use Rattle.cd_cbor.specs.Following.{Leads, goes_on, tells}
 use Rattle.cd_cbor.specs.declared.item.Item.{Item}
 use Rattle.cd_cbor.specs.declared.event.Event.{Event}
 use Rattle.cd_cbor.specs.declared.event.Event.TheVariants as event
-use Rattle.cd_cbor.specs.declared.event.Told.{Told}
 use Rattle.cd_cbor.specs.declared.event.Told.TheVariants as told
 use Rattle.cd_cbor.specs.declared.event.Act.TheVariants as act
 use Rattle.cd_cbor.specs.declared.wanted.Wanted.{Wanted}

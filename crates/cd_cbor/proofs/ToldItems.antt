@@ -1,14 +1,14 @@
 -- What is told of an item that is read are its events.
-use Rattle.std.proofs.Common.{◌≡◌, ℕ, ◌+◌, ◌-◌, ◌<◌, ◌≤◌, List, [], ◌∷◌, ◌++◌, length, drop, Ok, Err, refl, ap, sym, subst, ◌∙◌, arith, append_assoc}
+use Rattle.std.proofs.Common.{◌≡◌, ℕ, ◌+◌, ◌-◌, ◌<◌, List, [], ◌∷◌, ◌++◌, length, drop, Ok, Err, ap, sym, subst, ◌∙◌, arith, append_assoc}
 use Rattle.std.specs.Prelude.{All, Result}
 use Rattle.std.proofs.lemmas.List.{append_cancel_left}
 use Rattle.cd_cbor.specs.Spells.{Spells, Cbor, most_depth}
 use Rattle.cd_cbor.specs.Readings.{piece}
 use Rattle.cd_cbor.specs.Reading.{item_at}
-use Rattle.cd_cbor.specs.Events.{Open, passed, nothing_open}
+use Rattle.cd_cbor.specs.Events.{passed, nothing_open}
 use Rattle.cd_cbor.specs.Telling.{item_events, events_of}
-use Rattle.cd_cbor.specs.Following.{Kept, Leads, StandsFor, Stops, Nexts}
-use Rattle.cd_cbor.specs.OnePath.{TellsItem, EventsAreTheItems, SaysAgain}
+use Rattle.cd_cbor.specs.Following.{Kept, Leads, Stops, Nexts}
+use Rattle.cd_cbor.specs.OnePath.{EventsAreTheItems, SaysAgain}
 use Rattle.cd_cbor.specs.declared.item.Item.{Item}
 use Rattle.cd_cbor.specs.declared.event.Event.{Event}
 use Rattle.cd_cbor.specs.declared.event.Step.{Step}
@@ -21,7 +21,6 @@ use Rattle.cd_cbor.specs.declared.fault.CborFault.TheVariants as fault
 use Rattle.cd_cbor.proofs.Offsets.{piece_is}
 use Rattle.cd_cbor.proofs.Stands.{Stands}
 use Rattle.cd_cbor.proofs.ItemsStand.{item_sound}
-use Rattle.cd_cbor.proofs.Growing.{item_within}
 use Rattle.cd_cbor.proofs.Histories.{leads_grow}
 use Rattle.cd_cbor.proofs.Follow.{among}
 use Rattle.cd_cbor.proofs.ToldEvents.{item_tells}
@@ -57,10 +56,10 @@ events_are_the_items bytes given position at item next all leads h =
       spelled = t.spelled;
       told = t.told;
       fronts = λ fed more other later end place is reached after before.
-      let grown : Leads bytes other later end place = subst (λ b. Leads b other later end place) (sym is) (leads_grow fed more reached) in
-      let first = (histories_are_one bytes given other nothing_open later position end at place leads grown).front after in
-      let second = (histories_are_one bytes other (given ++ events) later nothing_open end next place next grown t.told).front before in
-      (first.0, second.0, first.1, append_cancel_left given events (first.0 ++ second.0) (second.1 ∙ ap (λ s. s ++ second.0) first.1 ∙ append_assoc given first.0 second.0));
+          let grown : Leads bytes other later end place = subst (λ b. Leads b other later end place) (sym is) (leads_grow fed more reached) in
+          let first = (histories_are_one bytes given other nothing_open later position end at place leads grown).front after in
+          let second = (histories_are_one bytes other (given ++ events) later nothing_open end next place next grown t.told).front before in
+          (first.0, second.0, first.1, append_cancel_left given events (first.0 ++ second.0) (second.1 ∙ ap (λ s. s ++ second.0) first.1 ∙ append_assoc given first.0 second.0));
     }
 
 -- a call after a fault says it again

@@ -13,7 +13,7 @@ use Rattle.cd_cbor.specs.declared.fault.Why.TheVariants.{End}
 abbrev pub SpelledIsRead : Type 0
 SpelledIsRead = (item : Item) (bytes more : List ℕ) → Cbor item bytes → cbor (bytes ++ more) ≡ Ok (item, length bytes)
 
--- So is what spells an item with any depth, wherever it stands, and whatever a break would be there.
+-- What spells an item with any depth is read as that item wherever it stands, whatever a break would be there.
 abbrev pub SpelledIsReadThere : Type 0
 SpelledIsReadThere = (depth : ℕ) (item : Item) (bytes spelled more : List ℕ) (broken : Why) (at : ℕ) →
     drop at bytes ≡ spelled ++ more → Spells depth item spelled → item_at depth bytes broken at ≡ Ok (item, at + length spelled)
@@ -23,7 +23,7 @@ abbrev pub ReadIsSpelled : Type 0
 ReadIsSpelled = (bytes : List ℕ) (item : Item) (size : ℕ) → All (λ byte. byte < 256) bytes → cbor bytes ≡ Ok (item, size) →
     (size ≤ length bytes) × Cbor item (take size bytes)
 
--- So does what is read as an item with any depth, at any offset: the bytes from there to the offset after it.
+-- What is read as an item with any depth, at any offset, spells that item: the bytes from there to the offset after it.
 abbrev pub ReadIsSpelledThere : Type 0
 ReadIsSpelledThere = (depth : ℕ) (bytes : List ℕ) (broken : Why) (at : ℕ) (item : Item) (next : ℕ) →
     All (λ byte. byte < 256) bytes → item_at depth bytes broken at ≡ Ok (item, next) →
@@ -43,7 +43,7 @@ pub record ReadingStays (depth : ℕ) (bytes : List ℕ) (broken : Why) (at : �
       item_at depth (bytes ++ more) broken at ≡ item_at depth bytes broken at
   pub ends : (place : ℕ) → item_at depth bytes broken at ≡ refused place End → place ≡ length bytes
 
--- this is so of all bytes, with any depth and at any offset, whatever a break would be there but an end
+-- what is read of any bytes stays so, with any depth and at any offset, whatever a break would be there but an end
 abbrev pub ReadingsStay : Type 0
 ReadingsStay = (depth : ℕ) (bytes : List ℕ) (broken : Why) (at : ℕ) → All (λ byte. byte < 256) bytes → (broken ≡ End → ⊥) →
     ReadingStays depth bytes broken at

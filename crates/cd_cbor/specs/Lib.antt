@@ -7,6 +7,7 @@ pub mod Spells
 pub mod Fitting
 pub mod Readings
 pub mod Reading
+pub mod Ends
 pub mod Events
 pub mod Following
 pub mod EventLaws

@@ -1,5 +1,5 @@
 -- What histories of the same bytes have in common.
-use Rattle.std.specs.Prelude.{◌≡◌, ℕ, ◌-◌, ◌<◌, ◌≤◌, List, [], ◌++◌, Result, Ok, Err, All}
+use Rattle.std.specs.Prelude.{◌≡◌, ℕ, ◌-◌, ◌<◌, ◌≤◌, List, ◌++◌, Result, Ok, Err, All}
 use Rattle.cd_cbor.specs.Spells.{most_depth, Cbor}
 use Rattle.cd_cbor.specs.Readings.{piece}
 use Rattle.cd_cbor.specs.Reading.{item_at}
@@ -26,7 +26,7 @@ abbrev pub HistoriesAreOne : Type 0
 HistoriesAreOne = (fed : List ℕ) (one other : List Event) (now later : Open) (position after at next : ℕ) →
     Leads fed one now position at → Leads fed other later after next → OneHistory one other now later position after at next
 
--- It stays as bytes come.
+-- A history of some bytes is one of more bytes.
 abbrev pub HistoriesStay : Type 0
 HistoriesStay = (fed more : List ℕ) (given : List Event) (now : Open) (position at : ℕ) → Leads fed given now position at →
     Leads (fed ++ more) given now position at
@@ -40,7 +40,7 @@ pub record StopsOnce (fed : List ℕ) (given : List Event) (at : ℕ) (reason : 
   -- but for an end, bytes that come do not change it
   pub stays : (reason ≡ End → ⊥) → (more : List ℕ) → Stops (fed ++ more) given at reason
 
--- this is so wherever they stop
+-- some bytes stop at one place at most, and all their histories lead there
 abbrev pub StopsAreOne : Type 0
 StopsAreOne = (fed : List ℕ) (given : List Event) (at : ℕ) (reason : Why) → Stops fed given at reason → StopsOnce fed given at reason
 

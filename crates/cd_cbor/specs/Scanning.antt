@@ -2,6 +2,7 @@
 use Rattle.std.specs.Prelude.{◌≡◌, ℕ, ◌+◌, ◌-◌, ◌<◌, ◌≤◌, nat_eq, Bool, true, false, List, [], ◌∷◌, ◌++◌, length, drop, Option, Some, None, Result, Ok, Err, All, if◌then◌else◌}
 use Rattle.cd_cbor.specs.Spells.{most_string}
 use Rattle.cd_cbor.specs.Readings.{Reading, ◌>>=◌, refused, byte_at, times, until_break}
+use Rattle.cd_cbor.specs.Ends.{end_of}
 use Rattle.cd_cbor.specs.Reading.{chunk_at, entry_at, item_at}
 use Rattle.cd_cbor.specs.Events.{innermost, passed, acted, head_front, MayAct}
 use Rattle.cd_cbor.specs.declared.wanted.Wanted.{Wanted}
@@ -18,10 +19,6 @@ use Rattle.cd_cbor.specs.declared.fault.Why.{Why}
 use Rattle.cd_cbor.specs.declared.fault.Why.TheVariants as why
 use Rattle.cd_cbor.specs.declared.fault.CborFault.{CborFault}
 use Rattle.cd_cbor.specs.declared.fault.CborFault.TheVariants as fault
-
--- where what is read ends
-abbrev pub end_of : {A : Type 0} → Reading A → Result ℕ CborFault
-end_of reading = reading >>= (λ x. Ok x.1)
 
 -- where all that is open ends, from after an item of the innermost on
 unfoldable pub all_left : ℕ → List ℕ → List Wanted → ℕ → Result ℕ CborFault

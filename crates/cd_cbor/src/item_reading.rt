@@ -1,6 +1,6 @@
 //! Reads items.
 
-ghost use Rattle.std.specs.Prelude.{◌≡◌, ◌-◌, ◌+◌, ◌<◌, ◌≤◌, length, take, Ok, IfOk};
+ghost use Rattle.std.specs.Prelude.{◌≡◌, ◌-◌, ◌+◌, ◌<◌, ◌≤◌, [], length, take, Ok, IfOk};
 ghost use Rattle.cd_cbor.specs.Spells.{Cbor, string_item, other};
 ghost use Rattle.cd_cbor.specs.Reading as reading;
 ghost use Rattle.cd_cbor.specs.Readings.{Gives, piece};
@@ -10,6 +10,7 @@ use crate::fault::{CborFault, Why};
 use crate::head_reading::{INDEFINITE, NO_ARGUMENT, argument_at, bad, byte_at, major_type};
 use crate::item::Item;
 use crate::major_type::MajorType;
+use crate::passing::pass_item;
 use crate::string_reading::{BREAK, chunks_at, string_at};
 use cd_name::{Blob, List};
 use std::alloc::Global;
@@ -27,6 +28,19 @@ pub(crate) fn copied(alloc: Global, bytes: &[u8]) -> Result<Blob, CborFault>
     }
 }
 
+// Memory is taken for at most so many values of an array or a map before they are read.
+const MOST_FORESEEN: u64 = 16;
+
+// An empty list with room for the values of an array or a map of so many, if they are few.
+fn room_for<T>(alloc: Global, count: u64) -> Result<Vec<T>, CborFault>
+    ensures { Gives (λ values. values.items) result (Ok []) }
+{
+    match Vec::with_capacity(alloc, count.min(MOST_FORESEEN) as usize) {
+        Ok(values) => Ok(values),
+        Err(_refused) => Err(CborFault::NoMemory),
+    }
+}
+
 // The text or the string of bytes with this content.
 #[tactic(auto, unfolding(crate::specs::Items::bytes, crate::specs::Items::text))]
 fn string_item(is_text: bool, content: Blob) -> Item
@@ -40,6 +54,7 @@ fn string_item(is_text: bool, content: Blob) -> Item
 }
 
 // The string of definite length with its head at an offset.
+#[inline(never)]
 #[tactic(auto, unfolding(crate::specs::Reading::definite_string_at))]
 fn definite_string_at(
     alloc: Global,
@@ -59,6 +74,7 @@ fn definite_string_at(
 }
 
 // The string in chunks with its head at an offset.
+#[inline(never)]
 #[tactic(auto, unfolding(crate::specs::Reading::chunked_string_at))]
 fn chunked_string_at(
     alloc: Global,
@@ -87,6 +103,7 @@ fn other(alloc: Global, bytes: &[u8], at: usize, end: usize) -> Result<Item, Cbo
 }
 
 // The simple value or the float with its head at an offset.
+#[inline(never)]
 #[tactic(auto, unfolding(crate::specs::Reading::simple_at))]
 fn simple_at(alloc: Global, bytes: &[u8], info: u8, at: usize) -> Result<(Item, usize), CborFault>
     requires { at < length bytes.now }
@@ -122,6 +139,7 @@ fn entry_at(
 
 // The array of definite length with its head at an offset.
 #[cycle(item)]
+#[inline(never)]
 #[tactic(auto, unfolding(crate::specs::Reading::array_at))]
 fn array_at(
     alloc: Global,
@@ -139,7 +157,7 @@ fn array_at(
         return Err(bad(at, Why::Depth));
     }
     let (count, next) = argument_at(bytes, info, at)?;
-    let mut items = Vec::new(alloc);
+    let mut items = room_for(alloc, count)?;
     let mut here = next;
     'items: for _ in 0..count {
         match item_at(alloc, bytes, depth - 1, Why::Break, here) {
@@ -155,6 +173,7 @@ fn array_at(
 
 // The map of definite length with its head at an offset.
 #[cycle(item)]
+#[inline(never)]
 #[tactic(auto, unfolding(crate::specs::Reading::map_at))]
 fn map_at(
     alloc: Global,
@@ -172,7 +191,7 @@ fn map_at(
         return Err(bad(at, Why::Depth));
     }
     let (count, next) = argument_at(bytes, info, at)?;
-    let mut pairs = Vec::new(alloc);
+    let mut pairs = room_for(alloc, count)?;
     let mut here = next;
     'pairs: for _ in 0..count {
         match entry_at(alloc, bytes, depth - 1, Why::Break, here) {
@@ -186,8 +205,8 @@ fn map_at(
     Ok((Item::Map(List::from_vec(pairs)), here))
 }
 
-// The tagged value with its head at an offset.
-#[cycle(item)]
+// The tagged value with its head at an offset. What is in it is passed over, and copied once with it.
+#[inline(never)]
 #[tactic(auto, unfolding(crate::specs::Reading::tagged_at))]
 fn tagged_at(
     alloc: Global,
@@ -205,13 +224,17 @@ fn tagged_at(
         return Err(bad(at, Why::Depth));
     }
     let (_tag, next) = argument_at(bytes, info, at)?;
-    let (_content, end) = item_at(alloc, bytes, depth - 1, Why::Break, next)?;
+    let end = match pass_item(bytes, depth - 1, Why::Break, next) {
+        Ok(end) => end,
+        Err(fault) => return Err(fault),
+    };
     let item = other(alloc, bytes, at, end)?;
     Ok((item, end))
 }
 
 // The array up to a break with its head at an offset.
 #[cycle(item)]
+#[inline(never)]
 #[tactic(auto, unfolding(crate::specs::Reading::open_array_at))]
 fn open_array_at(
     alloc: Global,
@@ -250,6 +273,7 @@ fn open_array_at(
 
 // The map up to a break with its head at an offset.
 #[cycle(item)]
+#[inline(never)]
 #[tactic(auto, unfolding(crate::specs::Reading::open_map_at))]
 fn open_map_at(
     alloc: Global,

@@ -18,8 +18,13 @@
 //! spelled, no spelling goes on as another, and some bytes spell at most one item.
 //!
 //! `Reader` reads items whose bytes come in pieces, and gives an event for each head (`Event`). For each history of
-//! pieces its answer is the same function of all bytes fed (`specs/Events`, `specs/Following`), and its events and its
-//! faults are those of the items that `decode_one` would read there (`laws::events_follow_items`).
+//! pieces its answer is the same function of all bytes fed (`specs/Events`, `specs/Following`). Its events are those of
+//! the items that `decode_one` would read there, by how each is spelled (`specs/Telling`), and its faults are theirs
+//! (`laws::events_are_the_items`, `laws::events_follow_items`).
+//!
+//! `Scan` says of the bytes of one item, as they come, whether the item is whole, is at fault, or goes on, with no event
+//! and no copy of a string (`specs/Scanning`): for each history of calls that is what `item_at` reads of all its bytes,
+//! in which as many arrays, maps and tags may be open as the caller says. `item_end` passes over an item at an offset.
 //!
 //! The map of the key 0 with the number 500, and of the key 1 with the text "DNS", has the spelling
 //! `a2 00 19 01 f4 01 63 44 4e 53`:
@@ -46,6 +51,7 @@ mod item_reading;
 pub mod laws;
 mod major_type;
 mod nest;
+mod passing;
 mod reader;
 mod scan;
 mod string_reading;

@@ -105,7 +105,10 @@ impl Model for Reader {
 impl Reader {
     ghost use Rattle.std.specs.Prelude.{Some, None, option_map};
     ghost use Rattle.cd_cbor.specs.declared.event.Event.{Event};
-    ghost use Rattle.cd_cbor.specs.Following.{StandsFor, Steps, Nexts};
+    ghost use Rattle.cd_cbor.specs.declared.fault.Why.{Why as Reason};
+    ghost use Rattle.cd_cbor.specs.declared.fault.Why.TheVariants.{End};
+    ghost use Rattle.cd_cbor.specs.Following.{StandsFor, Stops, Steps, Nexts};
+    ghost use Rattle.cd_cbor.specs.OnePath.{SaysAgain};
 
     /// A reader that was fed nothing.
     pub fn new(alloc: Global) -> Reader
@@ -216,11 +219,14 @@ impl Reader {
     }
 
     /// The next event of the bytes fed. `More` says that they end before it is whole, and hold no fault. `Bad` is the
-    /// first fault, at the head that shows it; each later call says it again. After `NoMemory` the call can be made
-    /// again.
+    /// first fault, at the head that shows it; each later call says it again, whatever is fed. Such a call judges the
+    /// head again, and looks at its text again where that is not UTF-8. After `NoMemory` the call can be made again.
     pub fn next(&mut self) -> Result<Step, CborFault>
         ensures history { (fed : List ℕ) (given : List Event) → StandsFor self.old fed given
             → Nexts self.new fed given result }
+        ensures again { (fed more : List ℕ) (given : List Event) (at : ℕ) (reason : Reason)
+            → Stops fed given at reason → (reason ≡ End → ⊥) → StandsFor self.old (fed ++ more) given
+            → SaysAgain at reason result }
         ensures count { self.new.fed_count ≡ self.old.fed_count }
     {
         'steps: loop {

@@ -40,8 +40,9 @@ pub enum Due {
     Nothing,
 }
 
-/// Judges one item whose bytes come in pieces, in memory of a fixed size. Each byte is passed once, and a string is not
-/// looked at before it, or its chunk, is whole.
+/// Judges one item whose bytes come in pieces, and keeps them nowhere: each call is given all bytes of the item so far.
+/// A head is passed once, and so is a string, once it is whole, or a chunk of one. It takes no memory of its own but for
+/// the arrays, maps and tags that are open.
 #[derive(Drop)]
 pub struct Scan {
     // So many arrays, maps and tags may be open at a time.
@@ -239,7 +240,8 @@ impl Scan {
         Ok(false)
     }
 
-    /// Judges all bytes of the item so far, which begin with those of the calls before.
+    /// Judges all bytes of the item so far, which begin with those of the calls before. After `Whole` and `Bad` each
+    /// later call says the same again.
     pub fn judge(&mut self, item: &[u8]) -> Judged
         ensures history { (start : ℕ) (before more : List ℕ) → item.now ≡ before ++ more
             → IsMarked start self.old before → IsMarked start self.new item.now
@@ -262,8 +264,8 @@ impl Scan {
     }
 }
 
-/// Where the item at an offset ends, in which at most so many arrays, maps and tags may be open: for bytes that are
-/// known to hold an item there. Where they hold none, no offset is promised.
+/// Where the item at an offset ends, in which at most so many arrays, maps and tags may be open, 16 at most: for bytes
+/// that are known to hold an item there. Where they hold none it is that offset.
 pub fn item_end(depth: usize, bytes: &[u8], at: usize) -> usize
     requires { depth ≤ most_depth }
     ensures { (item : Item) (end : ℕ) → reading.item_at depth bytes.now why.Break at ≡ Ok (item, end)
@@ -271,7 +273,7 @@ pub fn item_end(depth: usize, bytes: &[u8], at: usize) -> usize
 {
     match Scan::from(depth, at).judge(bytes) {
         Judged::Whole(end) => end,
-        Judged::Bad(place, _why) => place,
+        Judged::Bad(_place, _why) => at,
         Judged::More => at,
     }
 }

@@ -1,11 +1,11 @@
 -- What an item is that stands at an offset, by its head, and what the items in it are, one after another.
-use Rattle.std.proofs.Common.{◌≡◌, ℕ, zero, suc, ◌+◌, ◌-◌, ◌/◌, ◌%◌, ◌<◌, ◌≤◌, Bool, true, false, cond, List, [], ◌∷◌, length, drop, Option, Some, None, Result, Ok, Err, inl, inr, refl, ap, sym, subst, ◌∙◌, arith}
+use Rattle.std.proofs.Common.{◌≡◌, ℕ, zero, suc, ◌+◌, ◌-◌, ◌/◌, ◌%◌, ◌<◌, ◌≤◌, Bool, true, false, cond, List, [], ◌∷◌, length, drop, Some, None, Result, Ok, Err, inl, inr, refl, ap, sym, subst, ◌∙◌, arith}
 use Rattle.std.specs.Prelude.{nat_lt, nat_eq, slice_index, ◌&&◌}
 use Rattle.std.proofs.lemmas.Bool.{cases_lt, lt-ltb, le-ltb, ltb-false, ne_eqb}
 use Rattle.cd_cbor.specs.Heads.{major_type}
 use Rattle.cd_cbor.specs.Items.{unsigned, negative, bytes as bytes_item, text, array, entries}
 use Rattle.cd_cbor.specs.Spells.{other, most_string, is_content}
-use Rattle.cd_cbor.specs.Readings.{Reading, ◌>>=◌, refused, piece, byte_at, times, until_break, GivesFault, LiesWithin}
+use Rattle.cd_cbor.specs.Readings.{Reading, ◌>>=◌, piece, byte_at, times, until_break, GivesFault, LiesWithin}
 use Rattle.cd_cbor.specs.Reading.{ItemReader, argument_at, content_at, string_at, chunks_at, definite_string_at, chunked_string_at, simple_at, entry_at, array_at, map_at, tagged_at, open_array_at, open_map_at, definite_at, indefinite_at, item_by, item_at}
 use Rattle.cd_cbor.specs.declared.item.Item.{Item}
 use Rattle.cd_cbor.specs.declared.item.Item.TheViews.{out-Item, out-roll-Item}
@@ -19,7 +19,6 @@ use Rattle.cd_cbor.specs.declared.major_type.MajorType.{MajorType}
 use Rattle.cd_cbor.specs.declared.major_type.MajorType.TheVariants as major
 use Rattle.cd_cbor.proofs.Binds.{bind_ok, ok_same, not_ok, if_err_else}
 use Rattle.cd_cbor.proofs.Depths.{item_at_is}
-use Rattle.cd_file.specs.Kinds.{unsigned_in}
 use Rattle.cd_file.specs.ReadFile.{begins_with_break}
 use Rattle.cd_file.specs.ItemReading.{ItemAt, ItemsAt, PairsAt, HeadOf, ended_at}
 
@@ -109,7 +108,7 @@ item_any depth bytes broken at x h =
     item_at_is depth bytes why.Break at ∙ by_any depth (item_at (depth - 1) bytes) broken at bytes x (sym (item_at_is depth bytes broken at) ∙ h)
 
 -- items that are left are not at their end
-more_left : (count : ℕ) (bytes : List ℕ) (at : ℕ) → ended_at (Some (suc count)) bytes at ≡ None
+pub more_left : (count : ℕ) (bytes : List ℕ) (at : ℕ) → ended_at (Some (suc count)) bytes at ≡ None
 more_left count bytes at = rw (ne_eqb (suc count) 0 (λ e. omega arith)) refl
 
 -- so many items
@@ -244,15 +243,19 @@ module _ (depth : ℕ) (bytes : List ℕ) (info at n next : ℕ) (item : Item) (
   definite_of major.Array h =
       let test = if_err_else (nat_eq depth 0) _ _ (item, end) h in
       let items = bind_ok (times n (item_at (depth - 1) bytes why.Break) next) _ (item, end) (bound (argument_at info at bytes) (n, next) _ (Ok (item, end)) a test.1) in
-      let same = ok_same (array items.0.0, items.0.1) (item, end) items.2 in
-      (items.0.0, ap out-Item (sym (ap (λ p. p.0) same)) ∙ out_array items.0.0,
-      subst (λ e. ItemsAt (depth - 1) bytes (Some n) next items.0.0 e) (ap (λ p. p.1) same) (times_items (depth - 1) bytes n next items.0.0 items.0.1 items.1))
+      let same = ok_same (array items.0.0, items.0.1) (item, end) items.2 in (
+        items.0.0,
+        ap out-Item (sym (ap (λ p. p.0) same)) ∙ out_array items.0.0,
+        subst (λ e. ItemsAt (depth - 1) bytes (Some n) next items.0.0 e) (ap (λ p. p.1) same) (times_items (depth - 1) bytes n next items.0.0 items.0.1 items.1),
+      )
   definite_of major.Map h =
       let test = if_err_else (nat_eq depth 0) _ _ (item, end) h in
       let pairs = bind_ok (times n (entry_at (item_at (depth - 1) bytes) why.Break) next) _ (item, end) (bound (argument_at info at bytes) (n, next) _ (Ok (item, end)) a test.1) in
-      let same = ok_same (entries pairs.0.0, pairs.0.1) (item, end) pairs.2 in
-      (pairs.0.0, ap out-Item (sym (ap (λ p. p.0) same)) ∙ out_entries pairs.0.0,
-      subst (λ e. PairsAt (depth - 1) bytes (Some n) next pairs.0.0 e) (ap (λ p. p.1) same) (times_pairs (depth - 1) bytes n next pairs.0.0 pairs.0.1 pairs.1))
+      let same = ok_same (entries pairs.0.0, pairs.0.1) (item, end) pairs.2 in (
+        pairs.0.0,
+        ap out-Item (sym (ap (λ p. p.0) same)) ∙ out_entries pairs.0.0,
+        subst (λ e. PairsAt (depth - 1) bytes (Some n) next pairs.0.0 e) (ap (λ p. p.1) same) (times_pairs (depth - 1) bytes n next pairs.0.0 pairs.0.1 pairs.1),
+      )
   definite_of major.Tag h =
       let test = if_err_else (nat_eq depth 0) _ _ (item, end) h in
       let content = bind_ok (item_at (depth - 1) bytes why.Break next) _ (item, end) (bound (argument_at info at bytes) (n, next) _ (Ok (item, end)) a test.1) in
@@ -303,15 +306,19 @@ indefinite_of depth bytes at item end major.Text h =
 indefinite_of depth bytes at item end major.Array h =
     let test = if_err_else (nat_eq depth 0) _ _ (item, end) h in
     let items = bind_ok (until_break (λ (p : ℕ). p) bytes (length bytes) (item_at (depth - 1) bytes why.Break) (at + 1)) _ (item, end) test.1 in
-    let same = ok_same (array items.0.0, items.0.1) (item, end) items.2 in
-    (items.0.0, ap out-Item (sym (ap (λ p. p.0) same)) ∙ out_array items.0.0,
-    subst (λ e. ItemsAt (depth - 1) bytes None (at + 1) items.0.0 e) (ap (λ p. p.1) same) (until_items (depth - 1) bytes (length bytes) (at + 1) items.0.0 items.0.1 items.1))
+    let same = ok_same (array items.0.0, items.0.1) (item, end) items.2 in (
+      items.0.0,
+      ap out-Item (sym (ap (λ p. p.0) same)) ∙ out_array items.0.0,
+      subst (λ e. ItemsAt (depth - 1) bytes None (at + 1) items.0.0 e) (ap (λ p. p.1) same) (until_items (depth - 1) bytes (length bytes) (at + 1) items.0.0 items.0.1 items.1),
+    )
 indefinite_of depth bytes at item end major.Map h =
     let test = if_err_else (nat_eq depth 0) _ _ (item, end) h in
     let pairs = bind_ok (until_break (λ (p : ℕ). p) bytes (length bytes) (entry_at (item_at (depth - 1) bytes) why.Odd) (at + 1)) _ (item, end) test.1 in
-    let same = ok_same (entries pairs.0.0, pairs.0.1) (item, end) pairs.2 in
-    (pairs.0.0, ap out-Item (sym (ap (λ p. p.0) same)) ∙ out_entries pairs.0.0,
-    subst (λ e. PairsAt (depth - 1) bytes None (at + 1) pairs.0.0 e) (ap (λ p. p.1) same) (until_pairs (depth - 1) bytes (length bytes) (at + 1) pairs.0.0 pairs.0.1 pairs.1))
+    let same = ok_same (entries pairs.0.0, pairs.0.1) (item, end) pairs.2 in (
+      pairs.0.0,
+      ap out-Item (sym (ap (λ p. p.0) same)) ∙ out_entries pairs.0.0,
+      subst (λ e. PairsAt (depth - 1) bytes None (at + 1) pairs.0.0 e) (ap (λ p. p.1) same) (until_pairs (depth - 1) bytes (length bytes) (at + 1) pairs.0.0 pairs.0.1 pairs.1),
+    )
 indefinite_of depth bytes at item end major.Tag h = absurd (not_ok _ (item, end) h)
 indefinite_of depth bytes at item end major.Simple h = absurd (not_ok _ (item, end) h)
 
@@ -350,30 +357,3 @@ module _ (depth : ℕ) (bytes : List ℕ) (at : ℕ) (item : Item) (end : ℕ) (
       let k = bound (byte_at at bytes) first _ (Ok (item, end)) there read_by in
       let j = if_false (nat_lt (first % 32) 28) _ _ (le-ltb (first % 32) 28 high) k in
       indefinite_of depth bytes at item end (major_type (first / 32)) (if_err_else (nat_lt (first % 32) 31) _ _ (item, end) j).1
-
--- what is seen of an item by its head
-module _ (argument : Option ℕ) (next depth : ℕ) (bytes : List ℕ) (item : Item) (end : ℕ) where
-  pub unsigned_seen : (kind : MajorType) (n : ℕ) → HeadOf kind argument next depth bytes item end → kind ≡ major.Unsigned → argument ≡ Some n →
-      (unsigned_in (out-Item item) ≡ Some n) × (next ≡ end)
-  unsigned_seen kind n h k a = let g = rw (k, a) at h in (ap unsigned_in g.0, g.1)
-
-  pub never_bare : (kind : MajorType) → HeadOf kind argument next depth bytes item end → kind ≡ major.Unsigned → argument ≡ None → ⊥
-  never_bare kind h k a = let g = rw (k, a) at h in g
-
-  pub not_unsigned : (kind : MajorType) → HeadOf kind argument next depth bytes item end → (kind ≡ major.Unsigned → ⊥) → unsigned_in (out-Item item) ≡ None
-  not_unsigned major.Unsigned h apart = absurd (apart refl)
-  not_unsigned major.Negative h apart = negative_seen argument h
-    where
-      negative_seen : (a : Option ℕ) → HeadOf major.Negative a next depth bytes item end → unsigned_in (out-Item item) ≡ None
-      negative_seen None g = absurd g
-      negative_seen (Some n) g = ap unsigned_in g.0
-  not_unsigned major.Bytes h apart = bytes_seen argument h
-    where
-      bytes_seen : (a : Option ℕ) → HeadOf major.Bytes a next depth bytes item end → unsigned_in (out-Item item) ≡ None
-      bytes_seen None g = ap unsigned_in g.1
-      bytes_seen (Some n) g = ap unsigned_in g.0
-  not_unsigned major.Text h apart = ap unsigned_in h.1
-  not_unsigned major.Array h apart = ap unsigned_in h.1
-  not_unsigned major.Map h apart = ap unsigned_in h.1
-  not_unsigned major.Tag h apart = ap unsigned_in h.1
-  not_unsigned major.Simple h apart = ap unsigned_in h.1

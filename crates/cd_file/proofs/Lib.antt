@@ -11,3 +11,5 @@ pub mod HeadReadBack
 pub mod FilesReadBack
 pub mod HeadsOf
 pub mod PreambleSize
+pub mod HeadsSeen
+pub mod Elements

@@ -1,6 +1,6 @@
 -- What a file holds with each value in its place: the kept blocks of its blocks, up to the first that does not resolve, which
 -- is then refused (RFC 8618 7.3.2.3).
-use Rattle.std.specs.Prelude.{ℕ, List, [], ◌∷◌, length, Option, Result, Ok, Err}
+use Rattle.std.specs.Prelude.{ℕ, List, [], ◌∷◌, length, Option, Ok, Err}
 use Rattle.cd_block.specs.declared.block.Block.{Block}
 use Rattle.cd_block.specs.declared.kept.KeptBlock.{KeptBlock}
 use Rattle.cd_block.specs.declared.params.Params.{Params}

@@ -1,6 +1,6 @@
 -- The kinds of values that stand under the keys of a file, with their ranges (RFC 8618 7.3). A number of CBOR has 64 bits,
 -- so a range of 64 bits is every number.
-use Rattle.std.specs.Prelude.{ℕ, ◌^◌, nat_lt, nat_le, ℤ, pos, negsuc, List, [], ◌∷◌, length, Option, None, Some, Ok, Err, option_map, ok_or, if◌then◌else◌}
+use Rattle.std.specs.Prelude.{ℕ, ◌^◌, nat_lt, nat_le, ℤ, pos, negsuc, List, [], ◌∷◌, length, Option, None, Some, Ok, option_map, ok_or, if◌then◌else◌}
 use Rattle.cd_cbor.specs.declared.item.Item.{Item}
 use Rattle.cd_cbor.specs.declared.item.Item.TheViews.{out-Item}
 use Rattle.cd_cbor.specs.declared.item.Item.TheOpen.{Item-F}

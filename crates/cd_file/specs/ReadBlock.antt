@@ -1,6 +1,6 @@
 -- What a block gives, or the first refusal (RFC 8618 7.3.2). Each kind of map has one table here, with a line a key: whether
 -- it is required, its kind, and its place.
-use Rattle.std.specs.Prelude.{ℕ, List, [], ◌∷◌, Option, None, Some, ok_or}
+use Rattle.std.specs.Prelude.{List, [], ◌∷◌, None, Some, ok_or}
 use Rattle.cd_cbor.specs.declared.item.Item.{Item}
 use Rattle.cd_cbor.specs.declared.item.Item.TheViews.{out-Item}
 use Rattle.cd_block.specs.declared.block.Block.{Block}
@@ -12,7 +12,7 @@ use Rattle.cd_block.specs.declared.keys.TheConstants as key
 use Rattle.cd_file.specs.declared.refusal.FileWhy.TheVariants.{NotMap}
 use Rattle.cd_file.specs.Refusing.{Refusing, ◌>>=◌}
 use Rattle.cd_file.specs.Kinds.{unsigned, unsigned_if_below, signed, stamp, array_of, pairs_in}
-use Rattle.cd_file.specs.MapReading.{Line, required, optional, required_within, optional_within, map_from, fields_of}
+use Rattle.cd_file.specs.MapReading.{Line, optional, required_within, optional_within, map_from, fields_of}
 use Rattle.cd_file.specs.ReadTables.{tables_table}
 
 -- the keys of the preamble of a block; block parameters without an index are the first (RFC 8618 7.3.2.1)
@@ -112,7 +112,7 @@ block_table =
     ∷ optional_within key.BLOCK_TABLES tables_table
     ∷ optional key.BLOCK_ITEMS (array_of (map_from item_table no_item)) (λ xs b. record b { items = xs })
     ∷ optional key.BLOCK_MALFORMED (array_of (map_from malformed_table no_malformed))
-        (λ xs b. record b { malformed = xs })
+    (λ xs b. record b { malformed = xs })
     ∷ []
 
 -- a block before its first entry

@@ -1,8 +1,7 @@
 -- What reading a file gives (RFC 8618 7.3): an array of the text "C-DNS", a preamble and an array of blocks. A file is judged
 -- from left to right, each head of its beginning once it is there. The preamble and each block are read once they are whole,
 -- but for a fault of their CBOR and for too many bytes, which are judged where they stand.
-use Rattle.std.specs.Prelude.{◌≡◌, ℕ, zero, suc, ◌+◌, ◌-◌, nat_lt, nat_eq, Bool, true, false, ◌&&◌, List, [], ◌∷◌, ◌++◌, length, take, drop, Option, Some, None, Result, Ok, Err, ok_or, bytes_eq, codes, if◌then◌else◌}
-use Rattle.cd_cbor.specs.Readings.{Reading}
+use Rattle.std.specs.Prelude.{ℕ, zero, suc, ◌+◌, ◌-◌, nat_lt, nat_eq, Bool, true, false, ◌&&◌, List, [], ◌∷◌, ◌++◌, length, take, drop, Option, Some, None, Result, Ok, Err, ok_or, bytes_eq, codes, if◌then◌else◌}
 use Rattle.cd_cbor.specs.Reading.{item_at, content_at}
 use Rattle.cd_cbor.specs.declared.item.Item.{Item}
 use Rattle.cd_cbor.specs.declared.fault.Why.TheVariants as why

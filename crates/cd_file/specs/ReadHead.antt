@@ -1,6 +1,6 @@
 -- What the preamble of a file gives: its block parameters, or the first refusal (RFC 8618 7.3.1). Each kind of map has one
 -- table, with a line a key: whether it is required, its kind, and its place.
-use Rattle.std.specs.Prelude.{ℕ, zero, suc, ◌+◌, ◌%◌, ◌^◌, nat_eq, nat_le, Bool, true, ◌&&◌, List, [], ◌∷◌, Option, None, Some, Ok, Err, ok_or, slice_set, if◌then◌else◌}
+use Rattle.std.specs.Prelude.{ℕ, ◌+◌, ◌%◌, ◌^◌, nat_eq, nat_le, Bool, true, ◌&&◌, List, [], ◌∷◌, None, Some, Ok, Err, ok_or, slice_set, if◌then◌else◌}
 use Rattle.cd_cbor.specs.declared.item.Item.{Item}
 use Rattle.cd_cbor.specs.declared.item.Item.TheViews.{out-Item}
 use Rattle.cd_block.specs.declared.hints.Hints.{Hints}
@@ -88,7 +88,7 @@ preamble_table =
     ∷ required key.PREAMBLE_MINOR_VERSION unsigned (λ n p. p)
     ∷ optional key.PREAMBLE_PRIVATE_VERSION unsigned (λ n p. p)
     ∷ required key.PREAMBLE_BLOCK_PARAMETERS (filled_array_of (map_from parameters_table no_params))
-        (λ es p. record p { entries = es })
+    (λ es p. record p { entries = es })
     ∷ []
 
 -- a file preamble before its first entry

@@ -1,6 +1,6 @@
 -- What the tables of a block give (RFC 8618 7.3.2.3). Each kind of map has one table here, with a line a key: whether it is
 -- required, its kind, and its place.
-use Rattle.std.specs.Prelude.{ℕ, List, [], ◌∷◌, Option, None, Some}
+use Rattle.std.specs.Prelude.{ℕ, List, [], ◌∷◌, None, Some}
 use Rattle.cd_block.specs.declared.block.Block.{Block}
 use Rattle.cd_block.specs.declared.block.BlockData.{BlockData}
 use Rattle.cd_block.specs.declared.block.BlockQuestion.{BlockQuestion}
@@ -108,5 +108,5 @@ tables_table =
     ∷ optional key.TABLES_RRLIST (array_of (array_of unsigned)) (λ xs b. record b { rrlist = xs })
     ∷ optional key.TABLES_RR (array_of (map_from rr_table no_rr)) (λ xs b. record b { rr = xs })
     ∷ optional key.TABLES_MALFORMED_MESSAGE_DATA (array_of (map_from malformed_data_table no_data))
-        (λ xs b. record b { malformed_message_data = xs })
+    (λ xs b. record b { malformed_message_data = xs })
     ∷ []

@@ -1,4 +1,4 @@
-//! Writes C-DNS files (RFC 8618 7.3) in their one canonical spelling.
+//! Writes C-DNS files (RFC 8618 7.3) in their one canonical spelling, and says what reading a file gives.
 //!
 //! - A *file* is an array of the text "C-DNS", a *preamble* with the block parameters, and an array of *blocks*. The
 //!   array of blocks alone has an indefinite length, so a file is written block by block.
@@ -28,6 +28,11 @@
 //! block_bytes(&second, &mut out)?;
 //! end_bytes(&mut out)?;
 //! ```
+//!
+//! What any bytes hold as a file is one function of them (`specs/ReadFile`): block parameters, blocks, and an end, which
+//! may be a refusal (`BadFile`). Each kind of map has one table, with a line a key (`specs/ReadHead`, `specs/ReadTables`,
+//! `specs/ReadBlock`), and one reading of maps visits the entries in the order of their spelling (`specs/MapReading`).
+//! `key_laws` says that the keys of each table ascend.
 //!
 //! `laws` says that these calls in turn write the file of the parameters and of the two blocks, `size_laws` how many
 //! bytes each map of a block takes at most.

@@ -1,14 +1,14 @@
 //! What stands at an offset of well-formed bytes, by its head.
 
-ghost use Rattle.std.specs.Prelude.{◌≡◌, ℕ, OnOk, IfOk, option_map};
+ghost use Rattle.std.specs.Prelude.{◌≡◌, ℕ};
 ghost use Rattle.cd_cbor.specs.declared.item.Item.{Item};
 ghost use Rattle.cd_cbor.specs.declared.item.Item.TheViews.{out-Item};
-ghost use Rattle.cd_file.specs.Kinds.{unsigned_in, signed_in, integer_in};
+ghost use Rattle.cd_file.specs.Kinds.{unsigned_in, items_in, pairs_in};
 ghost use Rattle.cd_file.specs.ReadFile as files;
 ghost use Rattle.cd_file.specs.ItemReading as reading;
-ghost use Rattle.cd_file.specs.ItemReading.{ItemAt, ItemsAt, PairsAt, HeadOf, Views};
+ghost use Rattle.cd_file.specs.ItemReading.{ItemAt, HeadOf, Views, ViewsItems, ViewsPairs};
 
-use cd_cbor::{MajorType, argument_at, byte_at, major_type_of};
+use cd_cbor::{Integer, MajorType, argument_at, byte_at, major_type_of};
 
 // The additional information from which on a head tells no argument (RFC 8949 3).
 const NO_ARGUMENT: u8 = 28;
@@ -64,41 +64,106 @@ pub fn head_at(bytes: &[u8], at: usize) -> Begun
     }
 }
 
-/// The number from 0 that the item at an offset is.
-pub fn unsigned_at(bytes: &[u8], at: usize) -> Option<(u64, usize)>
+// The integer that a head tells, and the offset behind it.
+fn number_of(head: Begun) -> Option<(Integer, usize)>
+    ensures { result ≡ reading.number_of_head head.kind head.argument head.next }
+{
+    match (head.kind, head.argument) {
+        (MajorType::Unsigned, Some(n)) => Some((Integer::Unsigned(n), head.next)),
+        (MajorType::Negative, Some(n)) => Some((Integer::Negative(n), head.next)),
+        _ => None,
+    }
+}
+
+/// The integer that the item at an offset is.
+pub fn number_at(bytes: &[u8], at: usize) -> Option<(Integer, usize)>
     ensures { (depth : ℕ) (item : Item) (end : ℕ) → ItemAt depth bytes.now at item end
-        → Views result (unsigned_in (out-Item item)) end }
+        → Views result (reading.number_in (out-Item item)) end }
 {
     let head = head_at(bytes, at);
+    number_of(head)
+}
+
+// The number from 0 that a head tells, and the offset behind it.
+fn unsigned_of(head: Begun) -> Option<(u64, usize)>
+    ensures { result ≡ reading.unsigned_of_head head.kind head.argument head.next }
+{
     match (head.kind, head.argument) {
         (MajorType::Unsigned, Some(n)) => Some((n, head.next)),
         _ => None,
     }
 }
 
-/// The signed number of 64 bits that the item at an offset is.
-pub fn signed_at(bytes: &[u8], at: usize) -> Option<(i64, usize)>
+/// The number from 0 that the item at an offset is.
+pub fn unsigned_at(bytes: &[u8], at: usize) -> Option<(u64, usize)>
     ensures { (depth : ℕ) (item : Item) (end : ℕ) → ItemAt depth bytes.now at item end
-        → Views result (signed_in (out-Item item)) end }
+        → Views result (unsigned_in (out-Item item)) end }
 {
     let head = head_at(bytes, at);
-    match (head.kind, head.argument) {
-        (MajorType::Unsigned, Some(n)) if n < 1 << 63 => Some((n as i64, head.next)),
-        (MajorType::Negative, Some(n)) if n < 1 << 63 => Some((-1 - n as i64, head.next)),
+    unsigned_of(head)
+}
+
+// How many items the array of a head has, if its length is definite, and the offset behind it.
+fn items_of(head: Begun) -> Option<(Option<u64>, usize)>
+    ensures { result ≡ reading.items_of_head head.kind head.argument head.next }
+{
+    match head.kind {
+        MajorType::Array => Some((head.argument, head.next)),
         _ => None,
     }
 }
 
-/// The integer that the item at an offset is.
-pub fn integer_at(bytes: &[u8], at: usize) -> Option<(i128, usize)>
+/// How many items the array at an offset has, if its length is definite, and the offset behind its head.
+pub fn array_at(bytes: &[u8], at: usize) -> Option<(Option<u64>, usize)>
     ensures { (depth : ℕ) (item : Item) (end : ℕ) → ItemAt depth bytes.now at item end
-        → Views result (integer_in (out-Item item)) end }
+        → ViewsItems result (items_in (out-Item item)) depth bytes.now end }
 {
     let head = head_at(bytes, at);
-    match (head.kind, head.argument) {
-        (MajorType::Unsigned, Some(n)) => Some((n as i128, head.next)),
-        (MajorType::Negative, Some(n)) => Some((-1 - n as i128, head.next)),
+    items_of(head)
+}
+
+// How many pairs the map of a head has, if its length is definite, and the offset behind it.
+fn pairs_of(head: Begun) -> Option<(Option<u64>, usize)>
+    ensures { result ≡ reading.pairs_of_head head.kind head.argument head.next }
+{
+    match head.kind {
+        MajorType::Map => Some((head.argument, head.next)),
         _ => None,
+    }
+}
+
+/// How many pairs the map at an offset has, if its length is definite, and the offset behind its head.
+pub fn map_at(bytes: &[u8], at: usize) -> Option<(Option<u64>, usize)>
+    ensures { (depth : ℕ) (item : Item) (end : ℕ) → ItemAt depth bytes.now at item end
+        → ViewsPairs result (pairs_in (out-Item item)) depth bytes.now end }
+{
+    let head = head_at(bytes, at);
+    pairs_of(head)
+}
+
+/// An integer as a signed number of 64 bits, if it is in that range.
+pub fn signed_of(n: Integer) -> Option<i64>
+    ensures { result ≡ reading.signed_by n }
+{
+    match n {
+        Integer::Unsigned(n) => { if n < 1 << 63 { Some(n as i64) } else { None } }
+        Integer::Negative(n) => {
+            if n < 1 << 63 {
+                Some(-1 - n as i64)
+            } else {
+                None
+            }
+        }
+    }
+}
+
+/// An integer as a key.
+pub fn key_of(n: Integer) -> i128
+    ensures { result ≡ reading.key_by n }
+{
+    match n {
+        Integer::Unsigned(n) => n as i128,
+        Integer::Negative(n) => -1 - n as i128,
     }
 }
 
@@ -107,13 +172,7 @@ pub fn ended_at(bytes: &[u8], left: Option<u64>, at: usize) -> Option<usize>
     ensures { result ≡ reading.ended_at left bytes.now at }
 {
     match left {
-        Some(n) => {
-            if n == 0 {
-                Some(at)
-            } else {
-                None
-            }
-        }
+        Some(n) => { if n == 0 { Some(at) } else { None } }
         None => {
             if at < bytes.len() && bytes[at] == BREAK {
                 Some(at + 1)

@@ -7,7 +7,7 @@ ghost use Rattle.cd_file.specs.declared.refusal.FileWhy.TheVariants as why;
 ghost use Rattle.cd_file.specs.declared.reading.fault.ItemFault.TheVariants as fault;
 
 use super::fault::ItemFault;
-use super::heads::{signed_at, unsigned_at};
+use super::heads::{number_at, signed_of, unsigned_at};
 use crate::refusal::FileWhy;
 
 // The refusal of a value of another kind or beyond its range.
@@ -29,11 +29,14 @@ pub fn unsigned(bytes: &[u8], at: usize, key: u64) -> Result<(u64, usize), ItemF
 }
 
 /// A number from 0, of 16 bits.
-#[tactic(auto, unfolding(crate::specs::Kinds::unsigned_below))]
+#[tactic(auto, unfolding(crate::specs::Kinds::unsigned, crate::specs::Kinds::unsigned_below))]
 pub fn word(bytes: &[u8], at: usize, key: u64) -> Result<(u16, usize), ItemFault>
     ensures { (depth : ℕ) → ReadsItem (λ n. n) result depth bytes.now at (kinds.unsigned_below 0x1_0000 (pos key)) }
 {
-    let (n, next) = unsigned(bytes, at, key)?;
+    let (n, next) = match unsigned_at(bytes, at) {
+        Some(read) => read,
+        None => return Err(shape(key)),
+    };
     if n < 0x1_0000 {
         Ok((n as u16, next))
     } else {
@@ -42,11 +45,14 @@ pub fn word(bytes: &[u8], at: usize, key: u64) -> Result<(u16, usize), ItemFault
 }
 
 /// A number from 0, of 8 bits.
-#[tactic(auto, unfolding(crate::specs::Kinds::unsigned_below))]
+#[tactic(auto, unfolding(crate::specs::Kinds::unsigned, crate::specs::Kinds::unsigned_below))]
 pub fn byte(bytes: &[u8], at: usize, key: u64) -> Result<(u8, usize), ItemFault>
     ensures { (depth : ℕ) → ReadsItem (λ n. n) result depth bytes.now at (kinds.unsigned_below 0x100 (pos key)) }
 {
-    let (n, next) = unsigned(bytes, at, key)?;
+    let (n, next) = match unsigned_at(bytes, at) {
+        Some(read) => read,
+        None => return Err(shape(key)),
+    };
     if n < 0x100 {
         Ok((n as u8, next))
     } else {
@@ -55,7 +61,7 @@ pub fn byte(bytes: &[u8], at: usize, key: u64) -> Result<(u8, usize), ItemFault>
 }
 
 /// A number from 0, which is absent unless it is below a bound of 16 bits.
-#[tactic(auto, unfolding(crate::specs::Kinds::unsigned_if_below))]
+#[tactic(auto, unfolding(crate::specs::Kinds::unsigned, crate::specs::Kinds::unsigned_if_below))]
 pub fn word_if_below(
     bytes: &[u8],
     at: usize,
@@ -65,7 +71,10 @@ pub fn word_if_below(
     requires { bound ≤ 0x1_0000 }
     ensures { (depth : ℕ) → ReadsItem (λ n. n) result depth bytes.now at (kinds.unsigned_if_below bound (pos key)) }
 {
-    let (n, next) = unsigned(bytes, at, key)?;
+    let (n, next) = match unsigned_at(bytes, at) {
+        Some(read) => read,
+        None => return Err(shape(key)),
+    };
     if n < bound {
         Ok((Some(n as u16), next))
     } else {
@@ -74,7 +83,7 @@ pub fn word_if_below(
 }
 
 /// A number from 0, which is absent unless it is below a bound of 8 bits.
-#[tactic(auto, unfolding(crate::specs::Kinds::unsigned_if_below))]
+#[tactic(auto, unfolding(crate::specs::Kinds::unsigned, crate::specs::Kinds::unsigned_if_below))]
 pub fn byte_if_below(
     bytes: &[u8],
     at: usize,
@@ -84,7 +93,10 @@ pub fn byte_if_below(
     requires { bound ≤ 0x100 }
     ensures { (depth : ℕ) → ReadsItem (λ n. n) result depth bytes.now at (kinds.unsigned_if_below bound (pos key)) }
 {
-    let (n, next) = unsigned(bytes, at, key)?;
+    let (n, next) = match unsigned_at(bytes, at) {
+        Some(read) => read,
+        None => return Err(shape(key)),
+    };
     if n < bound {
         Ok((Some(n as u8), next))
     } else {
@@ -97,8 +109,12 @@ pub fn byte_if_below(
 pub fn signed(bytes: &[u8], at: usize, key: u64) -> Result<(i64, usize), ItemFault>
     ensures { (depth : ℕ) → ReadsItem (λ z. z) result depth bytes.now at (kinds.signed (pos key)) }
 {
-    match signed_at(bytes, at) {
-        Some(read) => Ok(read),
+    let (n, next) = match number_at(bytes, at) {
+        Some(read) => read,
+        None => return Err(shape(key)),
+    };
+    match signed_of(n) {
+        Some(z) => Ok((z, next)),
         None => Err(shape(key)),
     }
 }

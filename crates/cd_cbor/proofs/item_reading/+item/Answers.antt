@@ -1,9 +1,11 @@
 -- Each step of a loop is a step of the definition.
-use Rattle.std.proofs.Common.{ℕ, ◌-◌, length, arith}
+use Rattle.std.proofs.Common.{ℕ, ◌-◌, List, [], length, sym, arith}
 use Rattle.cd_cbor.specs.Items.{array, entries}
 use Rattle.cd_cbor.specs.Reading.{array_of, map_of, entry_at, array_at, map_at, open_array_at, open_map_at, item_at}
 use Rattle.cd_cbor.specs.declared.fault.Why.TheVariants as why
 use Rattle.cd_cbor.proofs.Repeats.{times_more, times_fault, times_end, until_more, until_fault, until_no_byte, until_stop, until_none}
+use Rattle.cd_cbor.proofs.Binds.{ok_same}
+use Rattle.cd_cbor.specs.declared.item.Item.{Item}
 use Rattle.cd_cbor.proofs.Loops.{array_start, map_start, open_array_start, open_map_start}
 use Rattle.cd_cbor.proofs.item_reading.+item.Goals as goal
 
@@ -11,8 +13,8 @@ pub array_at-items-init : goal.array_at-items-init
 array_at-items-init t c = record {
   order = omega (arith, c.in_ok-count.ensures.within);
   within = omega (arith, c.in_ok-count.ensures.within);
-  read = array_start c.args.depth (item_at (c.args.depth - 1) c.args.bytes.now) c.args.info c.args.at c.args.bytes.now c.in_ok-count.count c.in_ok-count.next c.new-items.result.items
-      c.if-depth-eq0.false c.in_ok-count.ensures.read c.new-items.ensures.items;
+  read = array_start c.args.depth (item_at (c.args.depth - 1) c.args.bytes.now) c.args.info c.args.at c.args.bytes.now c.in_ok-count.count c.in_ok-count.next c.in_ok-items.items.items
+      c.if-depth-eq0.false c.in_ok-count.ensures.read (sym (ok_same {A = List Item} [] c.in_ok-items.items.items c.in_ok-items.ensures));
 }
 
 pub array_at-returns-in-Err-clause-read : goal.array_at-returns-in-Err-clause-read
@@ -38,8 +40,8 @@ pub map_at-pairs-init : goal.map_at-pairs-init
 map_at-pairs-init t c = record {
   order = omega (arith, c.in_ok-count.ensures.within);
   within = omega (arith, c.in_ok-count.ensures.within);
-  read = map_start c.args.depth (item_at (c.args.depth - 1) c.args.bytes.now) c.args.info c.args.at c.args.bytes.now c.in_ok-count.count c.in_ok-count.next c.new-pairs.result.items
-      c.if-depth-eq0.false c.in_ok-count.ensures.read c.new-pairs.ensures.items;
+  read = map_start c.args.depth (item_at (c.args.depth - 1) c.args.bytes.now) c.args.info c.args.at c.args.bytes.now c.in_ok-count.count c.in_ok-count.next c.in_ok-pairs.pairs.items
+      c.if-depth-eq0.false c.in_ok-count.ensures.read (sym (ok_same {A = List (Item × Item)} [] c.in_ok-pairs.pairs.items c.in_ok-pairs.ensures));
 }
 
 pub map_at-returns-in-Err-clause-read : goal.map_at-returns-in-Err-clause-read

@@ -24,9 +24,6 @@ decreases-array_at l = 4 * l.depth
 abbrev pub decreases-map_at : goal.decreases-map_at
 decreases-map_at l = 4 * l.depth
 
-abbrev pub decreases-tagged_at : goal.decreases-tagged_at
-decreases-tagged_at l = 4 * l.depth
-
 abbrev pub decreases-open_array_at : goal.decreases-open_array_at
 decreases-open_array_at l = 4 * l.depth
 
