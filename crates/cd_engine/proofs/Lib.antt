@@ -16,3 +16,6 @@ pub mod Refusing
 pub mod Taking
 pub mod Closing
 pub mod Compacted
+pub mod EventsHave
+pub mod PacketBytes
+pub mod FilesReadBack

@@ -16,3 +16,4 @@ pub mod HeavyEvents
 pub mod RecordsGo
 pub mod CutsGo
 pub mod Lawful
+pub mod ReadBack

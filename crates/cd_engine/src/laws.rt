@@ -2,6 +2,7 @@
 
 ghost use Rattle.cd_engine.specs.Laws.{EachCaptureHasOneFile, EachCaptureHasOneClosedPart, EachCaptureHasOneCounts};
 ghost use Rattle.cd_engine.specs.Laws.{EventsAreLinear, EventsAreLight};
+ghost use Rattle.cd_engine.specs.ReadBack.{FilesAreReadBack, FilesAreKept, ClosedPartsAreReadBack};
 
 /// A law: each capture has exactly one file, under each valid settings. It does nothing.
 pub fn each_capture_has_one_file()
@@ -28,4 +29,13 @@ pub fn weights_of_events_are_linear()
 /// A law: the events of a capture of at most 2^48 bytes weigh less than 2^63 together. It does nothing.
 pub fn events_are_light()
     ensures { EventsAreLight }
+{}
+
+/// A law: under valid settings the file of a capture of bytes is read back. It ends whole, with the block parameters of
+/// the settings and the blocks of the runs, and with each value in its place these are what is kept of the runs. Its
+/// closed part is open, with the blocks of the runs that are closed. It does nothing.
+pub fn files_are_read_back()
+    ensures files { FilesAreReadBack }
+    ensures kept { FilesAreKept }
+    ensures closed_parts { ClosedPartsAreReadBack }
 {}

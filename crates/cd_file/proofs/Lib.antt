@@ -3,6 +3,13 @@ pub mod Maps
 pub mod MapSizes
 pub mod Numbers
 pub mod Sizes
+pub mod ValuesReadBack
+pub mod MapsReadBack
+pub mod TablesReadBack
+pub mod BlocksReadBack
+pub mod HeadReadBack
+pub mod FilesReadBack
 pub mod HeadsOf
+pub mod PreambleSize
 pub mod HeadsSeen
 pub mod Elements

@@ -49,14 +49,14 @@ number_short : (n m : ℕ) → length (head 0 n) ≤ m → length (spelling (uns
 number_short n m h = rw (spelling_unsigned n) h
 
 -- an entry whose value is there
-entry_some : (key m : ℕ) (item : Item) → nat_lt key 24 ≡ true → length (spelling item) ≤ m → length (entry_spelling key (Some item)) ≤ 1 + m
+pub entry_some : (key m : ℕ) (item : Item) → nat_lt key 24 ≡ true → length (spelling item) ≤ m → length (entry_spelling key (Some item)) ≤ 1 + m
 unfolding entry_spelling
 entry_some key m item small short =
     let one : length (spelling (unsigned key)) ≡ 1 = rw (spelling_unsigned key) (head_of_key 0 key small) in
     omega (arith, one, short, length-append (spelling (unsigned key)) (spelling item))
 
 -- an entry whose value is not there
-entry_none : (key m : ℕ) → length (entry_spelling key None) ≤ m
+pub entry_none : (key m : ℕ) → length (entry_spelling key None) ≤ m
 unfolding entry_spelling
 entry_none key m = omega arith
 

@@ -14,4 +14,6 @@ pub mod ItemHeads
 pub mod ReadFile
 pub mod KeptFile
 pub mod FileReading
+pub mod Readable
+pub mod ReadBack
 pub mod ItemReading

@@ -4,6 +4,7 @@ ghost use Rattle.std.specs.Prelude.{◌≡◌, List, [], ◌∷◌, ◌++◌};
 ghost use Rattle.cd_block.specs.declared.block.Block.{Block};
 ghost use Rattle.cd_block.specs.declared.params.Params.{Params};
 ghost use Rattle.cd_file.specs.Files.{file_head, block_spelling, file_begun, file_end, file_of};
+ghost use Rattle.cd_file.specs.ReadBack.{FileIsReadBack, OpenFileIsReadBack, FileIsKept};
 
 /// A head, then each block in turn, then the end are the file of these parameters and blocks.
 pub fn a_file_grows_by_its_blocks()
@@ -12,4 +13,13 @@ pub fn a_file_grows_by_its_blocks()
         file_begun params (blocks ++ block ∷ []) ≡ file_begun params blocks ++ block_spelling block }
     ensures ends { (params : Params) (blocks : List Block) →
         file_of params blocks ≡ file_begun params blocks ++ file_end }
+{}
+
+/// What is written is read back, where its numbers lie in the ranges in which they are read. The file of one set of block
+/// parameters and of some blocks is read as these and ends whole, and a file whose array of blocks is still open is read as
+/// the blocks so far. With each value in its place, blocks that resolve are read as the kept blocks.
+pub fn what_is_written_is_read_back()
+    ensures whole { FileIsReadBack }
+    ensures begun { OpenFileIsReadBack }
+    ensures kept { FileIsKept }
 {}

@@ -12,6 +12,8 @@ ghost use Rattle.cd_block.specs.declared.stats.Stats.{Stats};
 ghost use Rattle.cd_cbor.specs.Spelling.{spelling};
 ghost use Rattle.cd_file.specs.Maps.{entries_count};
 ghost use Rattle.cd_file.specs.Tables.{classtype_item, signature_item, question_item, rr_item, malformed_data_item};
+ghost use Rattle.cd_block.specs.declared.params.Params.{Params};
+ghost use Rattle.cd_file.specs.Head.{preamble_item};
 ghost use Rattle.cd_file.specs.Blocks.{statistics_item, extended_entries, query_response_item, malformed_item};
 ghost use Rattle.cd_file.specs.Ranges.{ClasstypeInRange, SignatureInRange, DataInRange, ItemInRange, MalformedInRange, string_length};
 
@@ -32,4 +34,9 @@ pub fn maps_of_blocks_are_short()
         82 + (12 * entries_count (extended_entries i.query_extended)
         + 12 * entries_count (extended_entries i.response_extended)) }
     ensures statistics { (s : Stats) → length (spelling (statistics_item s)) ≤ 61 }
+{}
+
+/// The most bytes of the preamble of a file: 400, and 9 for each type of resource records that is listed.
+pub fn preambles_are_short()
+    ensures { (p : Params) → length (spelling (preamble_item p)) ≤ 400 + 9 * length p.rr_types }
 {}

@@ -73,7 +73,7 @@ block_within t b =
     let whole = map_short _ _ (omega arith) lengths in omega (arith, whole)
 
 -- the values of a block are those of its items and of its malformed messages
-visits_of_block : (f : Visited → ℕ) (b : KeptBlock) →
+pub visits_of_block : (f : Visited → ℕ) (b : KeptBlock) →
     total f (visited b) ≡ total (λ i. total f (visited_item i)) b.items
     + total (λ m. total f (visited_malformed m)) b.malformed
 unfolding visited
@@ -98,14 +98,14 @@ costs_in_turn own f uses (x ∷ xs) =
     )
 
 -- what items cost
-items_in_turn : (t : KeptTables) (items : List KeptItem) → sum_by (item_cost t) items ≡
+pub items_in_turn : (t : KeptTables) (items : List KeptItem) → sum_by (item_cost t) items ≡
     total (λ i. size (query_response_item (indexed_item t i))) items
     + total (λ i. total (value_size t) (visited_item i)) items
 items_in_turn t items = costs_in_turn (λ i. size (query_response_item (indexed_item t i)))
     (value_size t) visited_item items
 
 -- what malformed messages cost
-malformed_in_turn : (t : KeptTables) (ms : List KeptMalformed) → sum_by (malformed_cost t) ms ≡
+pub malformed_in_turn : (t : KeptTables) (ms : List KeptMalformed) → sum_by (malformed_cost t) ms ≡
     total (λ m. size (malformed_item (indexed_malformed t m))) ms
     + total (λ m. total (value_size t) (visited_malformed m)) ms
 malformed_in_turn t ms = costs_in_turn (λ m. size (malformed_item (indexed_malformed t m)))

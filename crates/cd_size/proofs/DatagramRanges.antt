@@ -16,11 +16,11 @@ use Rattle.cd_size.specs.Ranges.{DatagramInRange}
 use Rattle.cd_size.proofs.MessageRanges.{word_short}
 
 -- bytes from an offset on are bytes
-dropped_bytes : (n : ℕ) (xs : List ℕ) → AreBytes xs → AreBytes (drop n xs)
+pub dropped_bytes : (n : ℕ) (xs : List ℕ) → AreBytes xs → AreBytes (drop n xs)
 dropped_bytes n xs bytes i = omega (arith, get_or-drop n xs i 0, bytes (n + i))
 
 -- so are the first ones
-taken_bytes : (n : ℕ) (xs : List ℕ) → AreBytes xs → AreBytes (take n xs)
+pub taken_bytes : (n : ℕ) (xs : List ℕ) → AreBytes xs → AreBytes (take n xs)
 taken_bytes n xs bytes i =
     elim (cases_lt i n) [
       | inl within ↦ omega (arith, get_or-take n xs i 0 within, bytes i)

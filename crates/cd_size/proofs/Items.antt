@@ -22,7 +22,7 @@ use Rattle.cd_size.proofs.Lists.{lists_cost}
 use Rattle.cd_size.proofs.Halves.{query_cost, response_cost, first_of, opt_of, first_question_fits, either_fits, either_share, first_of_message, lead_cost, opt_cost}
 
 -- an item's number of two bytes, and its byte
-item_in_range : (t : KeptTables) (p : Params) (earliest : Stamp) (r : RecordParts) → IsFit r →
+pub item_in_range : (t : KeptTables) (p : Params) (earliest : Stamp) (r : RecordParts) → IsFit r →
     ItemInRange (indexed_item t (kept_item p earliest r))
 unfolding indexed_item
 item_in_range t p earliest r fit = record {
@@ -71,14 +71,14 @@ lead_of_record t r fit =
     )
 
 -- the server's address
-server_kept : (p : Params) (r : RecordParts) → IsFit r →
+pub server_kept : (p : Params) (r : RecordParts) → IsFit r →
     IfSome (kept_signature p r).server_address (λ content. length content ≤ 16)
 server_kept p r fit =
     kept_within (λ content. length content ≤ 16) _ _ (Some (server_address p.prefixes (main_event r).server))
     (stored_short (server_prefix p.prefixes (main_event r).server.v6) (main_event r).server fit.main.server)
 
 -- the client's address
-client_kept : (p : Params) (earliest : Stamp) (r : RecordParts) → IsFit r →
+pub client_kept : (p : Params) (earliest : Stamp) (r : RecordParts) → IsFit r →
     IfSome (kept_item p earliest r).client_address (λ content. length content ≤ 16)
 client_kept p earliest r fit =
     kept_within (λ content. length content ≤ 16) _ _ (Some (client_address p.prefixes (main_event r).client))

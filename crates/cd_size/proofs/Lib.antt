@@ -10,5 +10,10 @@ mod Halves
 mod Items
 mod Runs
 mod MessageRanges
-mod EventRanges
-mod DatagramRanges
+pub mod EventRanges
+pub mod DatagramRanges
+mod TablesReadable
+mod RecordsReadable
+pub mod RunsReadable
+pub mod EventTimes
+pub mod NamesKept

@@ -33,7 +33,7 @@ use Rattle.cd_size.proofs.Items.{item_of_record}
 use Rattle.cd_size.proofs.Blocks.{kept_blocks_short}
 
 -- a pair
-pair_fits : (query response : EventParts) → EventInRange query → EventInRange response → IsFit (pair query response)
+pub pair_fits : (query response : EventParts) → EventInRange query → EventInRange response → IsFit (pair query response)
 pair_fits query response q r = record {
   main = q;
   main_fits = message_is_fit query.kind query.body q.has_body q.body;
@@ -127,7 +127,7 @@ malformed_record_cost t p earliest e range =
     )
 
 -- the range of the only event of a record
-only_event : (e : EventParts) → All EventInRange (e ∷ []) → EventInRange e
+pub only_event : (e : EventParts) → All EventInRange (e ∷ []) → EventInRange e
 only_event e all = All-head EventInRange e [] all
 
 -- the records of a run, each of which is an item, a malformed message or neither
@@ -176,7 +176,7 @@ malformed_or_not t p earliest true rs = omega (arith, total_map (malformed_cost 
 malformed_or_not t p earliest false rs = omega arith
 
 -- the items and the malformed messages of a run, which are none where it has no earliest time
-run_costs : (t : KeptTables) (p : Params) (run : List RecordParts) (earliest : Option Stamp) → All RecordInRange run →
+pub run_costs : (t : KeptTables) (p : Params) (run : List RecordParts) (earliest : Option Stamp) → All RecordInRange run →
     sum_by (item_cost t) (option_map_or (kept_items p run) earliest [])
     + sum_by (malformed_cost t) (option_map_or (kept_malformed_items p run) earliest []) ≤ run_weight run
 run_costs t p run None all = omega arith

@@ -101,13 +101,13 @@ opcode_short : (bits : ℕ) → opcode_of bits < 0x100
 opcode_short bits = omega arith
 
 -- the OPT record of a message is small
-found_opt : (m : Message) → MessageIsFit m → IfSome (find is_opt m.additional) RrIsSmall
+pub found_opt : (m : Message) → MessageIsFit m → IfSome (find is_opt m.additional) RrIsSmall
 found_opt m fit =
     all_find RrIsSmall is_opt m.additional
     (small_records m.additional fit.valid.additional.records_are_valid fit.range.additional)
 
 -- the top byte of its TTL is a byte
-ext_rcode_short : (o : Option Rr) → IfSome o RrIsSmall → option_map_or ext_rcode_of o 0 < 0x100
+pub ext_rcode_short : (o : Option Rr) → IfSome o RrIsSmall → option_map_or ext_rcode_of o 0 < 0x100
 ext_rcode_short None small = omega arith
 ext_rcode_short (Some r) small = let ttl : r.ttl < 0x1_0000_0000 = small.range.ttl in omega (arith, ttl)
 

@@ -1,5 +1,5 @@
 -- The ranges of the numbers of a datagram and of an event, which are those of their types.
-use Rattle.std.specs.Prelude.{◌≡◌, ℕ, ◌+◌, ◌<◌, ◌≤◌, length}
+use Rattle.std.specs.Prelude.{◌≡◌, ℕ, ◌+◌, ◌<◌, ◌≤◌, ◌^◌, length}
 use Rattle.std.specs.List.{All}
 use Rattle.cd_pairing.specs.declared.keyed.TheConstants.{LEAST_WEIGHT}
 use Rattle.cd_message.specs.declared.message.Question.{Question}
@@ -8,6 +8,7 @@ use Rattle.cd_message.specs.declared.message.Message as dns
 use Rattle.cd_message.specs.MessageLaws.{AreBytes}
 use Rattle.cd_message.specs.Weights.{weight_of}
 use Rattle.cd_packet.specs.Layers.{Datagram}
+use Rattle.cd_packet.specs.Time.{end_of_time}
 use Rattle.cd_ident.specs.declared.event.Body.{Body}
 use Rattle.cd_ident.specs.declared.event.Body.TheVariants.{Message, Payload, Nothing}
 use Rattle.cd_ident.specs.Bodies.{HasBody}
@@ -59,9 +60,18 @@ pub record EventInRange (e : EventParts) : Type 0 where
   pub body : BodyInRange e.body
   pub weight : body_weight e.body ≤ e.weight
 
+-- the time and the size of an event: before the end of time, and of 64 bits
+pub record EventIsTimed (e : EventParts) : Type 0 where
+  pub time : e.time < end_of_time
+  pub size : e.size < 2 ^ 64
+
 -- the ranges of the events of a record
 abbrev pub RecordInRange : RecordParts → Type 0
 RecordInRange r = All EventInRange (events_of r)
+
+-- the times and the sizes of the events of a record
+abbrev pub RecordIsTimed : RecordParts → Type 0
+RecordIsTimed r = All EventIsTimed (events_of r)
 
 -- the ranges of a datagram, whose addresses have sixteen octets as `Addr` has them
 pub record DatagramInRange (d : Datagram) : Type 0 where

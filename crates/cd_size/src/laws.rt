@@ -1,6 +1,6 @@
 //! Laws of the sizes of blocks, each the contract of a function that does nothing.
 
-ghost use Rattle.cd_size.specs.Laws.{KeptBlocksAreShort, BlocksAreLight, EventsAreInRange, DatagramsAreInRange};
+ghost use Rattle.cd_size.specs.Laws.{KeptBlocksAreShort, BlocksAreLight, BlocksAreReadable, BlocksAreNamed, EventsAreInRange, EventsAreTimed, DatagramsAreInRange};
 
 /// The spelling of a kept block with its tables takes at most 205 bytes and the costs of its items and of its malformed
 /// messages.
@@ -15,9 +15,25 @@ pub fn blocks_are_light()
     ensures { BlocksAreLight }
 {}
 
+/// The block of a run is read back from a file, where its events are in range, their times lie before the end of time,
+/// and the run weighs little enough that the block is no longer than a block may be.
+pub fn blocks_are_read_back()
+    ensures { BlocksAreReadable }
+{}
+
+/// The names of the kept block of a run are names, as those of valid messages are.
+pub fn blocks_are_named()
+    ensures { BlocksAreNamed }
+{}
+
 /// The event of a datagram is in range, where the numbers of the datagram are in the ranges of their types.
 pub fn events_are_in_range()
     ensures { EventsAreInRange }
+{}
+
+/// The time of the event of a packet lies before the end of time, as that of the packet does, and its size has 64 bits.
+pub fn events_are_timed()
+    ensures { EventsAreTimed }
 {}
 
 /// The datagram that a packet holds is in range, where the captured bytes of the packet are bytes.
