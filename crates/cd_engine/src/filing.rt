@@ -13,11 +13,11 @@ ghost use Rattle.cd_engine.specs.Filing.{ending_of, blocks_at_end};
 use crate::counts::{NO_RECORD_COUNTS, RecordCounts};
 use cd_bytes::Out;
 use cd_file::{block_bytes, end_bytes, head_bytes};
-use cd_hints::{Rec, Settings, dropped};
+use cd_filling::filled_block;
+use cd_hints::{Keeper, Rec, Settings, dropped_by};
 use cd_name::Blob;
 use cd_record::laws::one_record_is_admissible;
-use cd_record::{BlockRecords, Cutter, kept_block};
-use cd_table::build;
+use cd_record::{BlockRecords, Cutter};
 use std::alloc::{AllocError, Global};
 use std::marker::Model;
 
@@ -79,13 +79,15 @@ fn items_and_pairs(rec: &Rec) -> (u64, u64)
 
 // The counts with one record more.
 fn counts_with(settings: &Settings, counts: RecordCounts, rec: &Rec) -> RecordCounts
+    requires { IsValid settings.now }
     ensures { result ≡ counts_with settings.now.params.rr_types counts (record_parts rec.now) }
 {
+    let keeper = Keeper::of_ascending(&settings.params);
     let (items, pairs) = items_and_pairs(rec);
     RecordCounts {
         items: counts.items.saturating_add(items),
         pairs: counts.pairs.saturating_add(pairs),
-        dropped: counts.dropped.saturating_add(dropped(settings, rec)),
+        dropped: counts.dropped.saturating_add(dropped_by(&keeper, rec)),
     }
 }
 
@@ -108,13 +110,12 @@ impl Filing {
     }
 
     // Puts the block of a run at the end of the output.
-    fn put_block(&mut self, run: &BlockRecords) -> Result<(), AllocError>
-        requires kinds { HaveKinds (run_parts run.now).records }
-        requires counted { IsCounted self.old.settings.params.ticks (run_parts run.now) }
-        ensures { OnOk result (self.new ≡ with_block self.old (run_parts run.now).records) }
+    fn put_block(&mut self, run: BlockRecords) -> Result<(), AllocError>
+        requires kinds { HaveKinds (run_parts run).records }
+        requires counted { IsCounted self.old.settings.params.ticks (run_parts run) }
+        ensures { OnOk result (self.new ≡ with_block self.old (run_parts run).records) }
     {
-        let kept = kept_block(self.alloc, &self.settings, run)?;
-        let block = build(self.alloc, &kept)?;
+        let block = filled_block(self.alloc, &self.settings, run)?;
         block_bytes(&block, &mut self.output)?;
         self.blocks = self.blocks.saturating_add(1);
         Ok(())
@@ -130,7 +131,7 @@ impl Filing {
         self.counts = counts_with(&self.settings, self.counts, &rec);
         match self.cutter.push(rec) {
             Ok(None) => Ok(()),
-            Ok(Some(run)) => self.put_block(&run),
+            Ok(Some(run)) => self.put_block(run),
             Err(_) => Err(AllocError),
         }
     }
@@ -141,7 +142,7 @@ impl Filing {
     {
         match self.cutter.finish() {
             None => Ok(()),
-            Some(run) => self.put_block(&run),
+            Some(run) => self.put_block(run),
         }
     }
 
