@@ -1,3 +1,4 @@
 pub mod Growing
-pub mod Skipping
+pub mod Walking
+pub mod Holding
 pub mod Payloads

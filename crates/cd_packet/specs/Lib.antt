@@ -1,6 +1,8 @@
 pub mod Magic
 pub mod Time
 pub mod Capture
-pub mod Layers
+pub mod Readings
 pub mod IpPackets
+pub mod Links
+pub mod Layers
 pub mod Payloads

@@ -1,183 +1,112 @@
-//! Reads the layers of a packet: Ethernet, IPv4 (RFC 791 3.1) and UDP (RFC 768).
+//! Reads the layers of a packet.
 
-ghost use Rattle.std.specs.Prelude.{◌≡◌, ◌+◌, ◌<◌, ◌≤◌, ◌↔◌, IsTrue, length};
+ghost use Rattle.std.specs.Prelude.{◌≡◌, ◌+◌, ◌<◌, ◌≤◌, ◌↔◌, IsTrue, length, IfOk};
 ghost use Rattle.cd_bytes.specs.Numbers.{be16};
-ghost use Rattle.cd_packet.specs.IpPackets.{ip_packet_of};
-ghost use Rattle.cd_packet.specs.Layers.{HasOneVersion, HasShortPayload, found_in, skipped, skip_for_missing, ipv4_at};
-ghost use Rattle.cd_packet.specs.Layers.{udp_layer, ipv4_layer, ethernet_layer, layer_of, IsEthernetIpv4};
+ghost use Rattle.cd_packet.specs.Layers.{HasOneVersion, HasShortPayload, IsEthernetIpv4, found_in, layer_of};
+ghost use Rattle.cd_packet.specs.Layers.{time_of, reading_seen, udp_datagram, datagram_of};
 ghost use Rattle.cd_packet.specs.Time.{end_of_time};
 
-use crate::{Addr, Dgram, Layer, Packet, Reason, When};
+use crate::ip_packet::IpPacket;
+use crate::ip_reading::needs;
+use crate::link_reading::{ETHERNET_HEADER, LINK_ETHERNET, PROTOCOL_IPV4, ip_packet};
+use crate::{Dgram, Layer, Packet, Reason, When};
 use cd_bytes::be16;
-
-const LINK_ETHERNET: u16 = 1;
-
-const ETHERNET_HEADER: usize = 14;
-
-const PROTOCOL_IPV4: u16 = 0x0800;
-
-const IPV4_HEADER: usize = 20;
 
 const PROTOCOL_UDP: u8 = 17;
 
 const UDP_HEADER: usize = 8;
 
-// What the network layer says of the datagram in it.
-#[derive(Clone, Copy)]
-struct IpPacket {
-    src: Addr,
-    dst: Addr,
-    hop: u8,
-    // The offset of the transport header.
-    transport: usize,
-    // The offset of the network packet's end.
-    end: usize,
-}
-
-// Why bytes that are needed are not there.
-fn missing_why(packet: &Packet) -> Reason
-    ensures { skipped result ≡ skip_for_missing packet.now }
+// The time of a packet.
+fn time_of(packet: &Packet) -> Result<u64, Reason>
+    ensures exact { result ≡ time_of packet.now.when }
+    ensures timely { IfOk result (λ time. time < end_of_time) }
 {
-    if packet.bytes.as_slice().len() < packet.original as usize {
-        Reason::Cut
-    } else {
-        Reason::Length
+    match packet.when {
+        When::At(time) => Ok(time),
+        When::Outside => Err(Reason::Time),
+        When::Missing => Err(Reason::NoTime),
     }
 }
 
-// The IPv4 address at an offset.
-fn ipv4_address(bytes: &[u8], at: usize) -> Addr
-    requires { at + 4 ≤ length bytes.now }
-    ensures { result ≡ ipv4_at at bytes.now }
-{
-    Addr {
-        v6: false,
-        octets: [
-            bytes[at],
-            bytes[at + 1],
-            bytes[at + 2],
-            bytes[at + 3],
-            0,
-            0,
-            0,
-            0,
-            0,
-            0,
-            0,
-            0,
-            0,
-            0,
-            0,
-            0,
-        ],
-    }
-}
-
-// The datagram of UDP, whose header is there (RFC 768).
-fn udp<'a>(packet: &'a Packet, port: u16, time: u64, ip: IpPacket) -> Layer<'a>
+// The datagram of UDP in an IP packet (RFC 768).
+fn udp_datagram<'a>(
+    packet: &'a Packet,
+    port: u16,
+    time: u64,
+    ip: IpPacket,
+) -> Result<Dgram<'a>, Reason>
     requires timely { time < end_of_time }
-    requires header { ip.transport + 8 ≤ length packet.now.bytes }
-    requires one_version { ip.src.v6 ≡ ip.dst.v6 }
-    ensures found { found_in result ≡ udp_layer port time packet.now (ip_packet_of ip) }
-    ensures one_version { HasOneVersion result }
-    ensures short_payload { HasShortPayload result }
+    requires near { ip.start ≤ length packet.now.bytes + 40 }
+    ensures exact { reading_seen result ≡ udp_datagram port time ip packet.now }
+    ensures one_version { IfOk result (λ d. d.src.v6 ≡ d.dst.v6) }
+    ensures short_payload { IfOk result (λ d. length d.payload.now ≤ 65535) }
 {
     let bytes = packet.bytes.as_slice();
-    let sport = be16(bytes, ip.transport);
-    let dport = be16(bytes, ip.transport + 2);
+    if ip.protocol != PROTOCOL_UDP {
+        return Err(Reason::NotUdp);
+    }
+    if ip.end < ip.start + UDP_HEADER {
+        return Err(Reason::Length);
+    }
+    needs(packet, ip.start + UDP_HEADER)?;
+    let sport = be16(bytes, ip.start);
+    let dport = be16(bytes, ip.start + 2);
     if sport != port && dport != port {
-        return Layer::Skip(Reason::Port);
+        return Err(Reason::Port);
     }
-    let size = usize::from(be16(bytes, ip.transport + 4));
-    if size < UDP_HEADER || ip.end < ip.transport + size {
-        return Layer::Skip(Reason::Length);
+    let size = usize::from(be16(bytes, ip.start + 4));
+    if size < UDP_HEADER || ip.end < ip.start + size {
+        return Err(Reason::Length);
     }
-    if bytes.len() < ip.transport + size {
-        return Layer::Skip(missing_why(packet));
-    }
-    Layer::Dgram(Dgram {
+    needs(packet, ip.start + size)?;
+    Ok(Dgram {
         time,
         src: ip.src,
         dst: ip.dst,
         sport,
         dport,
         hop: ip.hop,
-        payload: &bytes[ip.transport + UDP_HEADER..ip.transport + size],
+        payload: &bytes[ip.start + UDP_HEADER..ip.start + size],
     })
 }
 
-// The IPv4 packet at an offset (RFC 791 3.1).
-fn ipv4<'a>(packet: &'a Packet, port: u16, time: u64, at: usize) -> Layer<'a>
-    requires timely { time < end_of_time }
-    requires within { at ≤ length packet.now.bytes }
-    ensures found { found_in result ≡ ipv4_layer port time packet.now at }
-    ensures one_version { HasOneVersion result }
-    ensures short_payload { HasShortPayload result }
+// The datagram in a packet.
+fn datagram<'a>(packet: &'a Packet, port: u16) -> Result<Dgram<'a>, Reason>
+    ensures exact { reading_seen result ≡ datagram_of port packet.now }
+    ensures one_version { IfOk result (λ d. d.src.v6 ≡ d.dst.v6) }
+    ensures short_payload { IfOk result (λ d. length d.payload.now ≤ 65535) }
 {
-    let bytes = packet.bytes.as_slice();
-    if bytes.len() < at + IPV4_HEADER {
-        return Layer::Skip(missing_why(packet));
-    }
-    if bytes[at] / 16 != 4 {
-        return Layer::Skip(Reason::NotIp);
-    }
-    let header = usize::from(bytes[at] % 16) * 4;
-    let total = usize::from(be16(bytes, at + 2));
-    if header < IPV4_HEADER || total < header {
-        return Layer::Skip(Reason::Length);
-    }
-    if be16(bytes, at + 6) % 0x4000 != 0 {
-        return Layer::Skip(Reason::Fragment);
-    }
-    if bytes[at + 9] != PROTOCOL_UDP {
-        return Layer::Skip(Reason::NotUdp);
-    }
-    if total < header + UDP_HEADER {
-        return Layer::Skip(Reason::Length);
-    }
-    if bytes.len() < at + header + UDP_HEADER {
-        return Layer::Skip(missing_why(packet));
-    }
-    let ip = IpPacket {
-        src: ipv4_address(bytes, at + 12),
-        dst: ipv4_address(bytes, at + 16),
-        hop: bytes[at + 8],
-        transport: at + header,
-        end: at + total,
-    };
-    udp(packet, port, time, ip)
-}
-
-// What stands after the header of Ethernet.
-fn ethernet<'a>(packet: &'a Packet, port: u16, time: u64) -> Layer<'a>
-    requires timely { time < end_of_time }
-    requires header { 14 ≤ length packet.now.bytes }
-    requires protocol { be16 12 packet.now.bytes ≡ 0x0800 }
-    ensures found { found_in result ≡ ethernet_layer port time packet.now }
-    ensures one_version { HasOneVersion result }
-    ensures short_payload { HasShortPayload result }
-{
-    ipv4(packet, port, time, ETHERNET_HEADER)
+    let time = time_of(packet)?;
+    let ip = ip_packet(packet)?;
+    udp_datagram(packet, port, time, ip)
 }
 
 /// The datagram in the layers of a packet, or why there is none for this port of DNS. The first rule that applies
-/// decides. The payload stays where it lies in the packet (RFC 791 3.1, RFC 768). It may be called where
-/// `is_ethernet_ipv4` holds.
+/// decides. The payload stays where it lies in the packet.
+///
+/// - The time of the packet is known, or it is `NoTime` or `Time`.
+/// - The link type is Ethernet (1), IP alone (101), or one of the two cooked headers of Linux (113 and 276), or it is
+///   `Link`. Up to two tags of IEEE 802.1Q or 802.1ad may follow, and then IPv4 (RFC 791 3.1) or IPv6 (RFC 8200 3), or
+///   it is `NotIp`.
+/// - Extension headers of IPv6 with options or routing are passed over (RFC 8200 4). Any fragment is `Fragment`, and
+///   another protocol than UDP (RFC 768) is `NotUdp`.
+/// - One of the two ports is this port, or it is `Port`.
+/// - Each header, and what the header of UDP says is there, lies within the length that the header around it tells, or
+///   it is `Length`. Bytes that are needed and missing are `Cut` where fewer were captured than the packet had, else
+///   `Length`.
 #[tactic(auto, unfolding(crate::specs::Layers::layer_of))]
 pub fn layers<'a>(packet: &'a Packet, port: u16) -> Layer<'a>
-    requires { IsEthernetIpv4 packet.now }
     ensures found { found_in result ≡ layer_of port packet.now }
     ensures one_version { HasOneVersion result }
     ensures short_payload { HasShortPayload result }
 {
-    match packet.when {
-        When::At(time) => ethernet(packet, port, time),
-        When::Outside => Layer::Skip(Reason::Time),
-        When::Missing => Layer::Skip(Reason::NoTime),
+    match datagram(packet, port) {
+        Ok(dgram) => Layer::Dgram(dgram),
+        Err(reason) => Layer::Skip(reason),
     }
 }
 
-/// Whether `layers` may be called: the time is known, and the packet is of Ethernet with the protocol of IPv4.
+/// Whether the time is known, and the packet is of Ethernet with the protocol of IPv4.
 pub fn is_ethernet_ipv4(packet: &Packet) -> bool
     ensures { IsTrue result ↔ IsEthernetIpv4 packet.now }
 {

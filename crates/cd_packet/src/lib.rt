@@ -14,8 +14,11 @@
 mod address;
 mod capture;
 mod datagram;
+mod ip_packet;
+mod ip_reading;
 pub mod laws;
 mod layer_reading;
+mod link_reading;
 mod magic;
 mod packet;
 
