@@ -6,8 +6,7 @@ use Rattle.cd_ident.specs.Events.{EventParts, event_parts}
 use Rattle.cd_ident.specs.declared.event_making.TheConstants.{GREATEST_WEIGHT}
 use Rattle.cd_ident.specs.declared.event_rules.EventRules.{EventRules}
 use Rattle.cd_packet.proofs.Payloads.{layer_within}
-use Rattle.cd_packet.proofs.Skipping.{layer_of-skipped}
-use Rattle.cd_packet.specs.Layers.{Datagram, datagram, skipped, layer_of, IsEthernetIpv4}
+use Rattle.cd_packet.specs.Layers.{Datagram, datagram, skipped, layer_of}
 use Rattle.cd_packet.specs.declared.datagram.Reason.{Reason}
 use Rattle.cd_packet.specs.declared.packet.Packet.{Packet}
 use Rattle.cd_pcap.specs.Laws.{record_size}
@@ -25,10 +24,6 @@ made rules p d e is parts fits =
 pub none_made : (rules : EventRules) (p : Packet) (r : Reason) → layer_of rules.port p ≡ skipped r → None ≡ event_of rules p
 unfolding event_of
 none_made rules p r is = sym (ap (event_found rules) is)
-
--- nor has one whose layers are not read
-pub unread_made : (rules : EventRules) (p : Packet) → (IsEthernetIpv4 p → ⊥) → None ≡ event_of rules p
-unread_made rules p other = let k = layer_of-skipped rules.port p other in none_made rules p k.0 k.1
 
 -- it weighs no more than that of a datagram
 pub made_light : (rules : EventRules) (d : Datagram) (e : EventParts) → e ≡ event_parts rules d → length d.payload ≤ 65535 → e.weight ≤ GREATEST_WEIGHT

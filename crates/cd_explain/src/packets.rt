@@ -3,8 +3,7 @@
 use crate::captures::{Visit, Walked};
 use crate::text::{put_hex, put_time};
 use cd_packet::{
-    Addr, BadCapture, CaptureWhy, Dgram, EndState, Layer, Packet, Reason, When, is_ethernet_ipv4,
-    layers,
+    Addr, BadCapture, CaptureWhy, Dgram, EndState, Layer, Packet, Reason, When, layers,
 };
 use std::alloc::AllocError;
 use std::fmt::Write;
@@ -114,9 +113,6 @@ pub struct Layers<'a> {
 impl Visit for Layers<'_> {
     fn packet(&mut self, packet: &Packet) -> Result<(), AllocError> {
         write!(self.text, "packet {} ", packet.at)?;
-        if !is_ethernet_ipv4(packet) {
-            return self.text.push_str("not-ethernet-ipv4\n");
-        }
         match layers(packet, self.port) {
             Layer::Dgram(dgram) => put_dgram(self.text, &dgram),
             Layer::Skip(reason) => writeln!(self.text, "skip {}", reason_of_layers(reason)),

@@ -1,10 +1,6 @@
 use Rattle.std.proofs.Common.{sym}
-use Rattle.cd_engine.proofs.EventsMade.{made, none_made, unread_made, made_light, made_linear}
+use Rattle.cd_engine.proofs.EventsMade.{made, none_made, made_light, made_linear}
 use Rattle.cd_engine.proofs.event_making.event_of.Goals as goal
-
-pub returns-then-not-is_ethernet_ipv4-clause-event : goal.returns-then-not-is_ethernet_ipv4-clause-event
-returns-then-not-is_ethernet_ipv4-clause-event c =
-    unread_made c.args.rules.now c.args.packet.now (λ is. let e = c.is_ethernet_ipv4.ensures.1 is in cc)
 
 pub returns-in_ok-event-in-Dgram-clause-event : goal.returns-in_ok-event-in-Dgram-clause-event
 returns-in_ok-event-in-Dgram-clause-event c =
