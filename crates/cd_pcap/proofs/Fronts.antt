@@ -92,9 +92,9 @@ pub open-few : (form : Form) (bytes : List ℕ) → length bytes < 4 → AreOpen
 open-few form bytes few = rw (lt-ltb (length bytes) 4 few) (pcap-magic bytes (form_of-few bytes few))
 
 -- a magic, and fewer bytes than a header has
-pub open-header : (form : Form) (bytes : List ℕ) → 4 ≤ length bytes → form_of bytes ≡ Some form → length bytes < 24 →
-    AreOpen form None 0 bytes
-open-header form bytes told magic short = rw (le-ltb (length bytes) 4 told) (pcap-short form bytes magic short)
+pub open-header : (before form : Form) (bytes : List ℕ) → 4 ≤ length bytes → form_of bytes ≡ Some form →
+    length bytes < 24 → AreOpen before None 0 bytes
+open-header before form bytes told magic short = rw (le-ltb (length bytes) 4 told) (pcap-short form bytes magic short)
 
 -- another magic, however the bytes go on
 pub refused-magic : (form : Form) (bytes : List ℕ) → 4 ≤ length bytes → form_of bytes ≡ None →
@@ -105,9 +105,9 @@ refused-magic form bytes told other = record {
 }
 
 -- another version, however the bytes go on
-pub refused-version : (form : Form) (bytes : List ℕ) → form_of bytes ≡ Some form → 24 ≤ length bytes →
-    (version form bytes ≡ 2 → ⊥) → AreRefused form None 0 (record { at = 0; why = Version }) bytes
-refused-version form bytes magic long other = record {
+pub refused-version : (before form : Form) (bytes : List ℕ) → form_of bytes ≡ Some form → 24 ≤ length bytes →
+    (version form bytes ≡ 2 → ⊥) → AreRefused before None 0 (record { at = 0; why = Version }) bytes
+refused-version before form bytes magic long other = record {
   told = omega arith;
   reads = λ more.
       let len : length (bytes ++ more) ≡ length bytes + length more = length-append bytes more in

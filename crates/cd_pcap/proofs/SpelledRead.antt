@@ -15,10 +15,10 @@ use Rattle.cd_packet.specs.declared.capture.EndState.{EndState}
 use Rattle.cd_packet.specs.declared.capture.EndState.TheVariants.{Whole, Cut, Bad}
 use Rattle.cd_packet.specs.declared.capture.BadCapture.{BadCapture}
 use Rattle.cd_packet.specs.Magic.{has_magic}
-use Rattle.cd_pcap.specs.Pcap.{Form, little_micros, is_little_micro, form_of, version, link_type, captured_length, records, pcap_in, pcap}
+use Rattle.cd_pcap.specs.Pcap.{Form, little_micros, big_micros, little_nanos, big_nanos, form_of, version, link_type, captured_length, records, pcap_in, pcap}
 use Rattle.cd_pcap.specs.Spelled.{RawHeader, HeaderFits, RawRecord, Fits, magic_number, magic, header, spelling_of, spellings, packet_of_raw, packets_of, BeginsRecord, IsRest, SpellsRecords, SpellsAfterHeader, SpellsIn, IsRead, HasNoMagic}
 use Rattle.cd_pcap.specs.Laws.{SpelledIsRead}
-use Rattle.cd_pcap.proofs.Forms.{cases_form, form_of-little_micro, form_of-other}
+use Rattle.cd_pcap.proofs.Forms.{cases_form, form_told}
 use Rattle.cd_pcap.proofs.Records.{records-none, records-short, records-refused, records-cut, pcap_in-short, pcap_in-version, pcap_in-records, pcap-magic, pcap-form}
 use Rattle.cd_pcap.proofs.Spelled.{four, third, four_long, header_four, spelled_read}
 
@@ -195,17 +195,30 @@ form_read form bytes c (inr (inr (other, is))) =
     ) in
     pcap_in-version form bytes long (λ two. other.other (sym says ∙ two)) ∙ sym is
 
--- the magic of little-endian order and microseconds is found at the front
-little_micro_front : (more : List ℕ) → is_little_micro (magic little_micros ++ more) ≡ true
-unfolding has_magic le32
-little_micro_front more = rw (le-ltb (length (magic little_micros ++ more)) 4 (omega arith)) refl
+-- the magic of microseconds in this order tells both
+micros_front : (order : Order) (more : List ℕ) →
+    let form : Form = record { order = order; unit = 1000 } in form_of (magic form ++ more) ≡ Some form
+unfolding form_of has_magic le32
+micros_front Big more = rw (le-ltb (length (magic big_micros ++ more)) 4 (omega arith)) refl
+micros_front Little more = rw (le-ltb (length (magic little_micros ++ more)) 4 (omega arith)) refl
+
+-- so does that of nanoseconds
+nanos_front : (order : Order) (more : List ℕ) →
+    let form : Form = record { order = order; unit = 1 } in form_of (magic form ++ more) ≡ Some form
+unfolding form_of has_magic le32
+nanos_front Big more = rw (le-ltb (length (magic big_nanos ++ more)) 4 (omega arith)) refl
+nanos_front Little more = rw (le-ltb (length (magic little_nanos ++ more)) 4 (omega arith)) refl
 
 -- the magic of a form that is read tells it
 pub magic_front : (form : Form) (more : List ℕ) → IsRead form → form_of (magic form ++ more) ≡ Some form
-magic_front form more read =
-    ap (λ (f : Form). form_of (magic f ++ more)) read
-    ∙ form_of-little_micro (magic little_micros ++ more) (little_micro_front more)
-    ∙ ap (λ (f : Form). Some f) (sym read)
+magic_front form more (inl is) =
+    let P : ℕ → Type 0 =
+    λ u. let f : Form = record { order = form.order; unit = u } in form_of (magic f ++ more) ≡ Some f in
+    subst P (sym is) (micros_front form.order more)
+magic_front form more (inr is) =
+    let P : ℕ → Type 0 =
+    λ u. let f : Form = record { order = form.order; unit = u } in form_of (magic f ++ more) ≡ Some f in
+    subst P (sym is) (nanos_front form.order more)
 
 -- what is spelled is in one form
 spelled_form : (form : Form) (bytes : List ℕ) → IsRead form → (more : List ℕ) → bytes ≡ magic form ++ more →
@@ -231,27 +244,32 @@ told : (few : Bool) (same : Bool) → (if few then false else same) ≡ true →
 told true same h = absurd cc
 told false same h = (refl, h)
 
--- the magic that is found is at the front
-little_micro_found : (bytes : List ℕ) → All (λ byte. byte < 256) bytes → is_little_micro bytes ≡ true →
-    bytes ≡ magic little_micros ++ drop 4 bytes
+-- a magic that is found is at the front
+word_found : (number : ℕ) (bytes : List ℕ) → All (λ byte. byte < 256) bytes → has_magic number bytes ≡ true →
+    bytes ≡ bytes_of w32 Little number ++ drop 4 bytes
 unfolding has_magic
-little_micro_found bytes all found =
-    let k = told (nat_lt (length bytes) 4) (nat_eq (le32 0 bytes) 0xa1b2c3d4) found in
-    let number : le32 0 bytes ≡ 0xa1b2c3d4 = eqb-true (le32 0 bytes) 0xa1b2c3d4 k.1 in
+word_found number bytes all found =
+    let k = told (nat_lt (length bytes) 4) (nat_eq (le32 0 bytes) number) found in
+    let is : le32 0 bytes ≡ number = eqb-true (le32 0 bytes) number k.1 in
     let front : bytes_of w32 Little (number32_at Little 0 bytes) ≡ take 4 bytes =
     number32-spelled Little bytes all (ltb-false (length bytes) 4 k.0) in
-    sym (take-append-drop 4 bytes) ∙ ap (λ t. t ++ drop 4 bytes) (sym front ∙ ap (λ n. bytes_of w32 Little n) number)
+    sym (take-append-drop 4 bytes) ∙ ap (λ t. t ++ drop 4 bytes) (sym front ∙ ap (λ n. bytes_of w32 Little n) is)
 
 -- a form that is told is read, and its magic is at the front
 pub magic_found : (form : Form) (bytes : List ℕ) → All (λ byte. byte < 256) bytes → form_of bytes ≡ Some form →
     IsRead form × (bytes ≡ magic form ++ drop 4 bytes)
 magic_found form bytes all says =
-    elim (cases_Bool (is_little_micro bytes)) [
-      | inl found ↦
-          let is : form ≡ little_micros = let same = sym says ∙ form_of-little_micro bytes found in cc in
-          (is, little_micro_found bytes all found ∙ ap (λ (f : Form). magic f ++ drop 4 bytes) (sym is))
-      | inr other ↦ let no : Some form ≡ None = sym says ∙ form_of-other bytes other in absurd cc
+    elim (form_told bytes form says) [
+      | inl (found, is) ↦ at_front little_micros is (inl refl) (word_found 0xa1b2c3d4 bytes all found)
+      | inr (inl (found, is)) ↦ at_front big_micros is (inl refl) (word_found 0xd4c3b2a1 bytes all found)
+      | inr (inr (inl (found, is))) ↦ at_front little_nanos is (inr refl) (word_found 0xa1b23c4d bytes all found)
+      | inr (inr (inr (found, is))) ↦ at_front big_nanos is (inr refl) (word_found 0x4d3cb2a1 bytes all found)
     ]
+  where
+    at_front : (this : Form) → form ≡ this → IsRead this → bytes ≡ magic this ++ drop 4 bytes →
+        IsRead form × (bytes ≡ magic form ++ drop 4 bytes)
+    at_front this is read front =
+        let P : Form → Type 0 = λ f. IsRead f × (bytes ≡ magic f ++ drop 4 bytes) in subst P (sym is) (read, front)
 
 -- no magic is at the front
 none_found : (bytes : List ℕ) → All (λ byte. byte < 256) bytes → HasNoMagic bytes → form_of bytes ≡ None

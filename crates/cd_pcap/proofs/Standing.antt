@@ -166,10 +166,10 @@ held_more r chunk fed given h = record {
 }
 
 -- the header is read
-pub header_read : (r : Kept) (link : ℕ) (fed : List ℕ) (given : List Packet) → r.link ≡ None → r.at ≡ 0 →
-    HasHeader r.form link r.held → HasRead r fed [] given →
-    HasRead (record r { held = drop 24 r.held; at = 24; link = Some link }) fed [] given
-header_read r link fed given none start header h =
+pub header_read : (r : Kept) (form : Form) (link : ℕ) (fed : List ℕ) (given : List Packet) → r.link ≡ None →
+    r.at ≡ 0 → HasHeader form link r.held → HasRead r fed [] given →
+    HasRead (record r { form = form; held = drop 24 r.held; at = 24; link = Some link }) fed [] given
+header_read r form link fed given none start header h =
     let front : List ℕ = take 24 r.held in
     let long : length front ≡ 24 = length-take-le 24 r.held header.long in
     record {
@@ -182,7 +182,7 @@ header_read r link fed given none start header h =
       reads = λ more.
           ap (λ t. pcap t) (append_assoc h.front front more) ∙ h.reads (front ++ more)
           ∙ ap (λ l. after given (reading_on r.form l r.at (front ++ more))) none
-          ∙ ap (λ c. after given c) (pcap-header r.form link r.held more header);
+          ∙ ap (λ c. after given c) (pcap-header form link r.held more header);
     }
 
 -- the mark is moved
@@ -348,5 +348,17 @@ header_refused r bad fed given sound none refused h =
     let start : 0 ≡ r.at + r.whole = omega (arith, k.0, k.1) in
     let first : P None 0 0 = refused in
     refused_stands r bad fed given sound.within
+    (subst (λ (l : Option ℕ). P l (r.at + r.whole) r.whole) (sym none)
+    (subst (λ (n : ℕ). P None n r.whole) start (subst (λ (m : ℕ). P None 0 m) (sym k.1) first))) h
+
+-- no whole header is there yet
+pub header_open : (r : Kept) (fed : List ℕ) (given : List Packet) → IsSound r → r.link ≡ None → r.refused ≡ None →
+    AreOpen r.form None 0 r.held → HasRead r fed [] given → StandsFor r fed given
+header_open r fed given sound none unrefused open_there h =
+    let k = header_first r sound none in
+    let P : Option ℕ → ℕ → ℕ → Type 0 = λ l n m. AreOpen r.form l n (drop m r.held) in
+    let start : 0 ≡ r.at + r.whole = omega (arith, k.0, k.1) in
+    let first : P None 0 0 = open_there in
+    open_stands r fed given unrefused
     (subst (λ (l : Option ℕ). P l (r.at + r.whole) r.whole) (sym none)
     (subst (λ (n : ℕ). P None n r.whole) start (subst (λ (m : ℕ). P None 0 m) (sym k.1) first))) h

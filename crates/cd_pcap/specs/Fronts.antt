@@ -23,10 +23,10 @@ pub record HasRecord (form : Form) (size : ℕ) (bytes : List ℕ) : Type 0 wher
   pub whole : size ≤ length bytes
 
 -- a header, or why there is none
-abbrev pub HeaderIs : Form → List ℕ → Header → Type 0
-HeaderIs form bytes (header.Link link) = HasHeader form link bytes
-HeaderIs form bytes header.Open = AreOpen form None 0 bytes
-HeaderIs form bytes (header.Refused bad) = AreRefused form None 0 bad bytes
+abbrev pub HeaderIs : List ℕ → Header → Type 0
+HeaderIs bytes (header.Read form link) = HasHeader form link bytes
+HeaderIs bytes header.Open = (form : Form) → AreOpen form None 0 bytes
+HeaderIs bytes (header.Refused bad) = (form : Form) → AreRefused form None 0 bad bytes
 
 -- a record of this size, or why there is none, after a header of any link type
 abbrev pub FrontIs : Form → ℕ → List ℕ → Front → Type 0

@@ -5,28 +5,35 @@ use Rattle.cd_packet.specs.declared.packet.Packet.{Packet}
 use Rattle.cd_packet.specs.declared.capture.EndState.TheVariants.{Whole, Cut}
 use Rattle.cd_packet.specs.declared.capture.CaptureWhy.TheVariants.{Magic, Version, Record}
 use Rattle.cd_bytes.specs.Numbers.{number16_at, number32_at}
-use Rattle.cd_bytes.specs.declared.order.Order.{Order}
-use Rattle.cd_bytes.specs.declared.order.Order.TheVariants.{Little}
+use Rattle.cd_bytes.specs.declared.order.Order.TheVariants.{Big, Little}
 use Rattle.cd_packet.specs.Magic.{has_magic}
 use Rattle.cd_packet.specs.Time.{when_at, when_at-timely}
 use Rattle.cd_packet.specs.Capture.{Capture, ends, refused_capture, after}
-
--- the form of a capture: the order of its numbers, and how many nanoseconds a unit of its fractions has, 1000 or 1
-pub record Form : Type 0 where
-  pub order : Order
-  pub unit : ℕ
+pub use Rattle.cd_pcap.specs.declared.form.Form.{Form}
 
 -- little-endian order and microseconds
 abbrev pub little_micros : Form
 little_micros = record { order = Little; unit = 1000 }
 
--- the first four bytes are d4 c3 b2 a1, the magic of this form
-abbrev pub is_little_micro : List ℕ → Bool
-is_little_micro bytes = has_magic 0xa1b2c3d4 bytes
+-- big-endian order and microseconds
+abbrev pub big_micros : Form
+big_micros = record { order = Big; unit = 1000 }
 
--- the form that these first bytes tell: so far little-endian order with microseconds alone is read
+-- little-endian order and nanoseconds
+abbrev pub little_nanos : Form
+little_nanos = record { order = Little; unit = 1 }
+
+-- big-endian order and nanoseconds
+abbrev pub big_nanos : Form
+big_nanos = record { order = Big; unit = 1 }
+
+-- The form that the first four bytes tell: d4 c3 b2 a1, a1 b2 c3 d4, 4d 3c b2 a1 or a1 b2 3c 4d. Others tell none.
 unfoldable pub form_of : List ℕ → Option Form
-form_of bytes = if is_little_micro bytes then Some little_micros else None
+form_of bytes =
+    if has_magic 0xa1b2c3d4 bytes then Some little_micros
+    else (if has_magic 0xd4c3b2a1 bytes then Some big_micros
+    else (if has_magic 0xa1b23c4d bytes then Some little_nanos
+    else (if has_magic 0x4d3cb2a1 bytes then Some big_nanos else None)))
 
 -- the major version of a header
 abbrev pub version : Form → List ℕ → ℕ

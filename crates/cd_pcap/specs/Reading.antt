@@ -11,7 +11,7 @@ use Rattle.cd_packet.specs.declared.capture.EndState.TheVariants.{Whole, Cut, Ba
 
 -- what a reader keeps
 pub record Kept : Type 0 where
-  -- the form that is read
+  -- the form that is read, once the header is
   pub form : Form
   -- how many bytes were fed
   pub fed_count : ℕ

@@ -8,7 +8,7 @@ use Rattle.cd_packet.specs.declared.capture.EndState.{EndState}
 use Rattle.cd_packet.specs.declared.capture.EndState.TheVariants.{Whole, Cut, Bad}
 use Rattle.cd_packet.specs.declared.capture.CaptureWhy.TheVariants.{Magic, Version, Record}
 use Rattle.cd_packet.specs.Capture.{Capture, ends, refused_capture}
-use Rattle.cd_pcap.specs.Pcap.{Form, little_micros, packet_of_parts}
+use Rattle.cd_pcap.specs.Pcap.{Form, packet_of_parts}
 
 -- the number that tells a unit of the fraction: a nanosecond, or else a microsecond
 abbrev pub magic_number : ℕ → ℕ
@@ -135,9 +135,9 @@ SpellsIn form bytes c =
     SpellsAfterHeader form bytes c
     ⊎ ((IsCutHeader form bytes × (c ≡ ends Cut)) ⊎ (HasOtherVersion form bytes × (c ≡ refused_capture 0 Version)))
 
--- the forms that are read so far
+-- the forms that are read: of microseconds and of nanoseconds, in either order
 abbrev pub IsRead : Form → Type 0
-IsRead form = form ≡ little_micros
+IsRead form = (form.unit ≡ 1000) ⊎ (form.unit ≡ 1)
 
 -- no form that is read has its magic in front
 abbrev pub HasNoMagic : List ℕ → Type 0

@@ -3,7 +3,9 @@
 ghost use Rattle.std.specs.Prelude.{◌≡◌, ℕ, ◌+◌, ◌≤◌, ◌^◌, [], ◌++◌, List, length, take, drop, Some, None, IsSome};
 ghost use Rattle.std.specs.Prelude.{OnOk, OnErr};
 
+use crate::form::Form;
 use crate::record::{HEADER, Header, header_of, open_end, packet_of, record_size, whole_records};
+use cd_bytes::Order;
 use cd_packet::{BadCapture, EndState, FeedFault, Packet};
 use std::alloc::{AllocError, Global};
 use std::marker::Model;
@@ -11,7 +13,7 @@ use std::marker::Model;
 // As many read bytes may stay in memory.
 const MOST_READ: usize = 65_536;
 
-/// Reads a pcap capture that comes in chunks: little-endian, microseconds (the pcap draft, 4 and 5).
+/// Reads a pcap capture that comes in chunks, in the form that its magic tells (the pcap draft, 4 and 5).
 #[derive(Drop)]
 pub struct PcapReader {
     alloc: Global,
@@ -23,6 +25,8 @@ pub struct PcapReader {
     at: u64,
     // So many bytes from `start` on are whole records.
     whole: usize,
+    // The form, once the header is read. Before that it is used for nothing.
+    form: Form,
     // The link type, once the header is read.
     link: Option<u16>,
     // The refused place, once it came. From there on no byte is kept.
@@ -30,14 +34,13 @@ pub struct PcapReader {
 }
 
 impl Model for PcapReader {
-    ghost use Rattle.cd_pcap.specs.Pcap.{little_micros};
     ghost use Rattle.cd_pcap.specs.Reading.{Kept, AreWhole};
     ghost use Rattle.std.specs.Prelude.{◌+◌, ◌-◌, ◌≤◌, ◌^◌, take, drop, length};
 
     ghost Value = { Kept };
 
     ghost view = { λ r. record {
-      form = little_micros;
+      form = r.form;
       fed_count = r.fed_count;
       held = drop r.start r.bytes.items;
       at = r.at;
@@ -50,7 +53,7 @@ impl Model for PcapReader {
       within : r.start + r.whole ≤ length r.bytes.items;
       counted : r.at + (length r.bytes.items - r.start) ≤ r.fed_count;
       few : r.fed_count ≤ 2 ^ 48;
-      marked : AreWhole little_micros r.link r.at (take r.whole (drop r.start r.bytes.items));
+      marked : AreWhole r.form r.link r.at (take r.whole (drop r.start r.bytes.items));
     } };
 }
 
@@ -72,6 +75,10 @@ impl PcapReader {
             start: 0,
             at: 0,
             whole: 0,
+            form: Form {
+                order: Order::Little,
+                unit: 1000,
+            },
             link: None,
             refused: None,
         }
@@ -112,14 +119,20 @@ impl PcapReader {
         self.refused = Some(bad);
     }
 
-    // Reads the header that is held, of this link type.
-    fn pass_header(&mut self, link: u16)
+    // Reads the header that is held, in this form and of this link type.
+    fn pass_header(&mut self, form: Form, link: u16)
         requires none { self.old.link ≡ None }
         requires long { 24 ≤ length self.old.held }
-        ensures { self.new ≡ record self.old { held = drop 24 self.old.held; at = 24; link = Some link } }
+        ensures { self.new ≡ record self.old {
+          form = form;
+          held = drop 24 self.old.held;
+          at = 24;
+          link = Some link;
+        } }
     {
         self.start += HEADER;
         self.at += HEADER as u64;
+        self.form = form;
         self.link = Some(link);
     }
 
@@ -133,7 +146,7 @@ impl PcapReader {
         ensures place { self.new.at ≡ self.old.at }
     {
         let mark = self.start + self.whole;
-        let records = whole_records(self.at + self.whole as u64, &self.bytes[mark..]);
+        let records = whole_records(self.form, self.at + self.whole as u64, &self.bytes[mark..]);
         self.whole += records.size;
         match records.refused {
             None => {}
@@ -154,8 +167,8 @@ impl PcapReader {
             None => match header_of(&self.bytes[self.start..]) {
                 Header::Open => {}
                 Header::Refused(bad) => self.refuse(bad),
-                Header::Link(link) => {
-                    self.pass_header(link);
+                Header::Read(form, link) => {
+                    self.pass_header(form, link);
                     self.mark_records();
                 }
             },
@@ -206,8 +219,8 @@ impl PcapReader {
             return Ok(None);
         }
         let held = &self.bytes[self.start..];
-        let packet = packet_of(self.alloc, link, self.at, held)?;
-        let size = record_size(held);
+        let packet = packet_of(self.alloc, self.form, link, self.at, held)?;
+        let size = record_size(self.form, held);
         self.start += size;
         self.at += size as u64;
         self.whole -= size;

@@ -1,7 +1,9 @@
 -- A reader as it goes on over the whole blocks that it holds.
-use Rattle.std.proofs.Common.{◌≡◌, ℕ, ◌+◌, ◌-◌, ◌≤◌, Option, Some, None, List, [], ◌∷◌, ◌++◌, length, take, drop, map, refl, ap, sym, ◌∙◌, subst, arith, length-append}
+use Rattle.std.proofs.Common.{◌≡◌, ℕ, ◌+◌, ◌-◌, ◌≤◌, ◌^◌, Option, Some, None, List, [], ◌∷◌, ◌++◌, length, take, drop, map, refl, ap, sym, ◌∙◌, subst, arith, length-append}
 use Rattle.std.proofs.lemmas.List.{drop-append-le, drop-drop, drop-take, drop_all, length-drop, length-take-le, map-append, take-append-drop}
 use Rattle.std.proofs.Math.Seq.{take-append_seam}
+use Rattle.std.specs.List.{sum_by}
+use Rattle.std.proofs.lemmas.List.Sums.{sum_by-append}
 use Rattle.std.specs.Prelude.{option_map}
 use Rattle.cd_bytes.specs.declared.order.Order.{Order}
 use Rattle.cd_packet.specs.declared.capture.BadCapture.{BadCapture}
@@ -9,12 +11,15 @@ use Rattle.cd_packet.specs.declared.capture.CaptureWhy.{CaptureWhy}
 use Rattle.cd_packet.specs.declared.packet.Packet.{Packet}
 use Rattle.cd_pcapng.specs.Founds.{FoundSeen, section_in, FindsAll, IsStopped}
 use Rattle.cd_pcapng.specs.Fronts.{packet_in, ArePlaced}
+use Rattle.cd_pcapng.specs.Giving.{HasRoom}
+use Rattle.cd_pcapng.specs.Laws.{least_block_length}
 use Rattle.cd_pcapng.specs.Reading.{Kept, HasRead, StandsFor, AreOpen, AreRefused}
 use Rattle.cd_pcapng.specs.Sections.{section_of}
 use Rattle.cd_pcapng.specs.declared.front.WholeBlocks.{WholeBlocks}
 use Rattle.cd_pcapng.specs.declared.packet_place.PacketPlace.{PacketPlace}
 use Rattle.cd_pcapng.proofs.Dropping.{kept_in}
 use Rattle.cd_pcapng.proofs.Passing.{packet_in-append, packets_in-drop, placed_append, placed_later, placed_order}
+use Rattle.cd_pcapng.proofs.Sizes.{passed_size}
 use Rattle.cd_pcapng.proofs.Standing.{blocks_read, open_stands, refused_stands}
 
 -- all packets that were found are placed up to the mark
@@ -71,6 +76,33 @@ read_on fed_count base start bytes old new b refused k fed given h =
     subst P (read_view fed_count base start b.size bytes old new k.passes.places refused k.passes.ready k.passes.placed)
     (blocks_read (kept_in fed_count base start bytes old refused) b.size (map (packet_in (base + start) (drop start bytes)) k.passes.places) (section_in new) fed given
     k.passes.within k.passes.reads h)
+
+-- the packets that were read had room in the bytes that were
+pub read_room : (fed_count base start : ℕ) (bytes : List ℕ) (old new : FoundSeen) (b : WholeBlocks) (before later : Option BadCapture) →
+    FindsAll old new (base + start) (drop start bytes) b → base + (start + b.size) ≤ 2 ^ 48 →
+    HasRoom (kept_in fed_count base start bytes old before) (kept_in fed_count base (start + b.size) bytes new later)
+read_room fed_count base start bytes old new b before later k few =
+    let seen : PacketPlace → Packet = packet_in base bytes in
+    let ps : List Packet = map (packet_in (base + start) (drop start bytes)) k.passes.places in
+    let ready : map seen old.ready ++ ps ≡ map seen new.ready =
+    ap (λ (r : Kept). r.ready) (read_view fed_count base start b.size bytes old new k.passes.places before k.passes.ready k.passes.placed) in
+    let sum : sum_by least_block_length (map seen new.ready) ≡ sum_by least_block_length (map seen old.ready) + sum_by least_block_length ps =
+    sym (ap (sum_by least_block_length) ready) ∙ sum_by-append least_block_length (map seen old.ready) ps in
+    let room : sum_by least_block_length ps ≤ b.size =
+    passed_size (section_in old) (section_in new) (base + start) b.size (drop start bytes) ps k.passes.reads in
+    record { packets = omega (arith, sum, room); few = few }
+
+-- so they had before a refused place
+pub refused_room : (fed_count base start : ℕ) (bytes : List ℕ) (old new : FoundSeen) (b : WholeBlocks) (before later : Option BadCapture) → start ≤ length bytes →
+    ArePlaced base old.ready (base + start) → FindsAll old new (base + start) (drop start bytes) b → base + (start + b.size) ≤ 2 ^ 48 →
+    HasRoom (kept_in fed_count base start bytes old before) (kept_in fed_count base (start + b.size) (take (start + b.size) bytes) new later)
+refused_room fed_count base start bytes old new b before later within placed k few =
+    let m : ℕ = start + b.size in
+    let all : m ≤ length bytes = omega (arith, within, k.passes.within, length-drop start bytes) in
+    let ready : map (packet_in base (take m bytes)) new.ready ≡ map (packet_in base bytes) new.ready =
+    packets_in-take base m (base + m) bytes new.ready base (omega arith) (omega arith) all (placed_all base start (drop start bytes) old new b placed k) in
+    let room = read_room fed_count base start bytes old new b before later k few in
+    record { packets = omega (arith, room.packets, ap (sum_by least_block_length) ready); few = few }
 
 -- what stands after them, as the reader sees it
 stopped_after : (base start size : ℕ) (bytes : List ℕ) (P : ℕ → List ℕ → Type 0) → P (base + start + size) (drop size (drop start bytes)) → P (base + (start + size)) (drop (start + size) bytes)

@@ -1,7 +1,8 @@
 -- The blocks of the packets of a capture take no more bytes than it has.
-use Rattle.std.proofs.Common.{◌≡◌, ℕ, zero, suc, ◌+◌, ◌-◌, ◌≤◌, List, [], ◌∷◌, length, arith, subst, refl, sym, inl, inr}
+use Rattle.std.proofs.Common.{◌≡◌, ℕ, zero, suc, ◌+◌, ◌-◌, ◌≤◌, Option, Some, None, List, [], ◌∷◌, ◌++◌, length, take, arith, subst, refl, ap, sym, ◌∙◌, inl, inr}
 use Rattle.std.specs.List.{sum_by}
 use Rattle.std.proofs.lemmas.Bool.{cases_Bool}
+use Rattle.std.proofs.lemmas.List.{append-nil, length-take}
 use Rattle.std.proofs.lemmas.List.Sums.{sum_by-cons}
 use Rattle.cd_packet.specs.Capture.{Capture, after}
 use Rattle.cd_packet.specs.declared.packet.Packet.{Packet}
@@ -9,7 +10,8 @@ use Rattle.cd_pcapng.specs.Blocks.{Front, cut_front, refused_front, other_block,
 use Rattle.cd_pcapng.specs.Laws.{PacketsAreWithin, least_block_length}
 use Rattle.cd_pcapng.specs.Pcapng.{from_front, blocks, pcapng}
 use Rattle.cd_pcapng.specs.Sections.{Section, no_section}
-use Rattle.cd_pcapng.proofs.Capturing.{blocks-cut, blocks-refused, pcapng-header, pcapng-magic}
+use Rattle.cd_pcapng.specs.Reading.{reading_on}
+use Rattle.cd_pcapng.proofs.Capturing.{blocks-none, blocks-cut, blocks-refused, pcapng-header, pcapng-magic, pcapng-none}
 use Rattle.cd_pcapng.proofs.Wholes.{HasLength, front_cases}
 
 -- the packets of a capture take at most so many bytes
@@ -76,3 +78,29 @@ captures_have_size bytes =
 
 pub packets_within : PacketsAreWithin
 packets_within bytes = size_known _ _ (captures_have_size bytes)
+
+-- what is read from somewhere on
+read_size : (section : Option Section) (at : ℕ) (bytes : List ℕ) → HaveSize (length bytes) (reading_on section at bytes)
+read_size None at bytes = captures_have_size bytes
+read_size (Some s) at bytes = more_size _ _ _ (blocks_size s 0 at bytes) (omega arith)
+
+-- nothing but packets is left of packets before nothing
+front_packets : (ps : List Packet) (c d : Capture) → c ≡ after ps d → d.packets ≡ [] → c.packets ≡ ps
+front_packets ps c d is none = ap (λ (k : Capture). k.packets) is ∙ ap (λ qs. ps ++ qs) none ∙ append-nil ps
+
+-- of no bytes there is no packet
+none_read : (section : Option Section) (at : ℕ) → (reading_on section at []).packets ≡ []
+none_read None at = ap (λ (c : Capture). c.packets) pcapng-none
+none_read (Some s) at = ap (λ (c : Capture). c.packets) (blocks-none s at [] refl)
+
+-- the packets of whole blocks take no more bytes than these
+pub passed_size : (section next : Option Section) (at size : ℕ) (bytes : List ℕ) (ps : List Packet) →
+    ((more : List ℕ) → reading_on section at (take size bytes ++ more) ≡ after ps (reading_on next (at + size) more)) →
+    sum_by least_block_length ps ≤ size
+passed_size section next at size bytes ps reads =
+    let front : List ℕ = take size bytes in
+    let packets : (reading_on section at front).packets ≡ ps =
+    ap (λ t. (reading_on section at t).packets) (sym (append-nil front))
+    ∙ front_packets ps (reading_on section at (front ++ [])) _ (reads []) (none_read next (at + size)) in
+    let all = size_known _ _ (read_size section at front) in
+    omega (arith, all, ap (sum_by least_block_length) packets, length-take size bytes)

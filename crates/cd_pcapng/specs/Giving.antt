@@ -1,10 +1,12 @@
 -- What the reader of a capture answers.
-use Rattle.std.specs.Prelude.{◌≡◌, ℕ, ◌+◌, List, [], ◌∷◌, ◌++◌, take, Option, Some, None, Result, Ok, Err, ⊤}
+use Rattle.std.specs.Prelude.{◌≡◌, ℕ, ◌+◌, ◌≤◌, ◌^◌, List, [], ◌∷◌, ◌++◌, take, Option, Some, None, Result, Ok, Err, ⊤}
 use Rattle.std.specs.declared.alloc.AllocError.{AllocError}
 use Rattle.cd_packet.specs.declared.capture.BadCapture.{BadCapture}
 use Rattle.cd_packet.specs.declared.capture.FeedFault.{FeedFault}
 use Rattle.cd_packet.specs.declared.capture.FeedFault.TheVariants.{Bad, NoMemory}
 use Rattle.cd_packet.specs.declared.packet.Packet.{Packet}
+use Rattle.std.specs.List.{sum_by}
+use Rattle.cd_pcapng.specs.Laws.{least_block_length}
 use Rattle.cd_pcapng.specs.Pcapng.{pcapng}
 use Rattle.cd_pcapng.specs.Reading.{Kept, StandsFor, refusal_of}
 
@@ -25,6 +27,11 @@ abbrev pub Counts : {U : Type 0} → Kept → Kept → ℕ → Result U FeedFaul
 Counts old new more (Ok u) = new.fed_count ≡ old.fed_count + more
 Counts old new more (Err (Bad bad)) = new.fed_count ≡ old.fed_count + more
 Counts old new more (Err NoMemory) = new ≡ old
+
+-- as bytes were fed, the packets that came took no more of them than were read, and these are no more than may be fed
+pub record HasRoom (old new : Kept) : Type 0 where
+  pub packets : old.at + sum_by least_block_length new.ready ≤ new.at + sum_by least_block_length old.ready
+  pub few : new.at ≤ 2 ^ 48
 
 -- What `next` answers: the first packet that is ready, which is then given, or that none is. Nothing else changes.
 abbrev pub GivesFirst : Kept → Kept → Result (Option Packet) AllocError → Type 0

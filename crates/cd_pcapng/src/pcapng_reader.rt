@@ -100,7 +100,7 @@ impl PcapngReader {
     ghost use Rattle.cd_pcapng.specs.Pcapng.{pcapng};
     ghost use Rattle.cd_packet.specs.declared.packet.Packet.{Packet};
     ghost use Rattle.cd_pcapng.specs.Reading.{Kept, HasRead, StandsFor};
-    ghost use Rattle.cd_pcapng.specs.Giving.{Feeds, RefusesAgain, Counts, Gives, GivesFirst};
+    ghost use Rattle.cd_pcapng.specs.Giving.{Feeds, RefusesAgain, Counts, HasRoom, Gives, GivesFirst};
 
     /// A reader that was fed nothing.
     pub fn new(alloc: Global) -> PcapngReader
@@ -141,6 +141,7 @@ impl PcapngReader {
             StandsFor self.new fed given) }
         ensures unchanged { OnErr result (self.new ≡ self.old) }
         ensures count { self.new.fed_count ≡ self.old.fed_count }
+        ensures place { OnOk result (HasRoom self.old self.new) }
     {
         let at = self.base + self.start as u64;
         let whole = self.found.read(at, &self.bytes[self.start..])?;
@@ -190,6 +191,7 @@ impl PcapngReader {
         ensures history { OnOk result ((fed : List ℕ) (given : List Packet) → StandsFor self.old fed given →
             StandsFor self.new (fed ++ chunk.now) given) }
         ensures count { OnOk result (self.new.fed_count ≡ self.old.fed_count + length chunk.now) }
+        ensures place { OnOk result (HasRoom self.old self.new) }
         ensures unchanged { OnErr result (self.new ≡ self.old) }
     {
         self.hold(chunk)?;
@@ -211,6 +213,7 @@ impl PcapngReader {
             → Feeds self.new (fed ++ chunk.now) given result }
         ensures again { RefusesAgain self.old result }
         ensures count { Counts self.old self.new (length chunk.now) result }
+        ensures place { HasRoom self.old self.new }
     {
         if let Some(bad) = self.refused {
             self.fed_count += chunk.len() as u64;

@@ -1,6 +1,5 @@
 use Rattle.std.proofs.Common.{◌≡◌, ℕ, ◌+◌, ◌≤◌, None, Option, IsSome, length, drop, arith}
 use Rattle.std.proofs.lemmas.List.{length-drop, drop-drop, take_rest}
-use Rattle.cd_pcap.specs.Pcap.{little_micros}
 use Rattle.cd_pcap.specs.Reading.{AreOpen, AreRefused}
 use Rattle.cd_pcap.proofs.Inside.{held_in, marked_inside, sound_inside}
 use Rattle.cd_pcap.proofs.Marks.{after_header}
@@ -31,7 +30,7 @@ returns-in-None-clause-history c =
     let header : IsSome c.self.inside.link = rw (← c.self.view_is) at c.requires.header in
     let sound : c.self.inside.refused ≡ None = rw (← c.self.view_is) at c.requires.sound in
     let P : Option ℕ → Type 0 =
-    λ l. AreOpen little_micros l (c.self.inside.at + whole + size) (drop size (drop whole (held_in c.self.inside))) in
+    λ l. AreOpen c.self.inside.form l (c.self.inside.at + whole + size) (drop size (drop whole (held_in c.self.inside))) in
     rw (← c.self.view_is) (λ fed given h. marked_open _ size fed given sound
     (after_header P c.self.inside.link header stopped) h)
 
@@ -47,7 +46,7 @@ returns-in-Some-clause-history c =
     let within : whole + size ≤ length (held_in c.self.inside) =
     omega (arith, k.within, sound.within, length-drop whole (held_in c.self.inside)) in
     let P : Option ℕ → Type 0 =
-    λ l. AreRefused little_micros l (c.self.inside.at + whole + size) c.in-Some.bad
+    λ l. AreRefused c.self.inside.form l (c.self.inside.at + whole + size) c.in-Some.bad
     (drop size (drop whole (held_in c.self.inside))) in
     rw (c.refuse.ensures, ← c.self.view_is) (λ fed given h. marked_refused _ size c.in-Some.bad fed given within
     (after_header P c.self.inside.link header stopped) h)

@@ -8,7 +8,7 @@ pub invariant_of-self : goal.invariant_of-self
 invariant_of-self c =
     let none : c.self.inside.link ≡ None = rw (← c.self.view_is) at c.requires.none in
     let long : 24 ≤ length (held_in c.self.inside) = rw (← c.self.view_is) at c.requires.long in
-    header_inside c.self.inside c.args.link c.self.invariant none long
+    header_inside c.self.inside c.args.form c.args.link c.self.invariant none long
 
 pub returns : goal.returns
 returns c =

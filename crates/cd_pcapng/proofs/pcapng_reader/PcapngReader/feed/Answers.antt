@@ -1,4 +1,4 @@
-use Rattle.std.proofs.Common.{◌∙◌, ◌++◌}
+use Rattle.std.proofs.Common.{◌∙◌, ◌++◌, arith}
 use Rattle.cd_pcapng.specs.Reading.{StandsFor}
 use Rattle.cd_pcapng.specs.contracts.pcapng_reader.PcapngReader.{the_view}
 use Rattle.cd_pcapng.proofs.Advancing.{start_known}
@@ -37,3 +37,15 @@ returns-clause-history c = λ fed given h.
       | in-None w ↦ rw w.result-is (stands, known ∙ w.in-None.is)
       | in-Some-refused w ↦ rw w.result-is (stands, known ∙ w.in-Some-refused.is)
     ]
+
+pub returns-in-Some-clause-place : goal.returns-in-Some-clause-place
+returns-in-Some-clause-place c =
+    let k = c.self.invariant in
+    rw (← c.self.view_is)
+    (record { packets = omega arith; few = omega (arith, k.within, k.counted, k.few) })
+
+pub returns-in-Err-clause-place : goal.returns-in-Err-clause-place
+returns-in-Err-clause-place c =
+    let k = c.self.invariant in
+    rw (c.in-Err.ensures.unchanged, ← c.self.view_is)
+    (record { packets = omega arith; few = omega (arith, k.within, k.counted, k.few) })

@@ -1,7 +1,7 @@
 use Rattle.std.proofs.Common.{◌≡◌, ◌+◌, ◌≤◌, None, length, ap, ◌∙◌, arith}
 use Rattle.std.proofs.lemmas.List.{take_rest, length-drop, length-take-le}
 use Rattle.cd_pcapng.specs.Reading.{Kept}
-use Rattle.cd_pcapng.proofs.Advancing.{placed_all, stands_open, stands_refused}
+use Rattle.cd_pcapng.proofs.Advancing.{placed_all, read_room, refused_room, stands_open, stands_refused}
 use Rattle.cd_pcapng.proofs.pcapng_reader.PcapngReader.read_blocks.Goals as goal
 
 pub invariant_of-self-in-Some : goal.invariant_of-self-in-Some
@@ -44,3 +44,23 @@ returns-in_default-clause-history c =
     rw (← c.self.view_is)
     (stands_open c.self.inside.fed_count c.self.inside.base c.self.inside.start c.self.inside.bytes.items c.self.inside.found c.read.new.self c.in_ok-whole.whole
     c.self.inside.refused sound c.in_default.is k)
+
+pub returns-in-Some-clause-place : goal.returns-in-Some-clause-place
+returns-in-Some-clause-place c =
+    let k = rw (c.deref.ensures.value, take_rest) at c.in_ok-whole.ensures.ok in
+    let few = c.self.invariant.few in
+    let counted = c.self.invariant.counted in
+    rw (c.truncate.ensures.items, ← c.self.view_is)
+    (refused_room c.self.inside.fed_count c.self.inside.base c.self.inside.start c.self.inside.bytes.items c.self.inside.found c.read.new.self c.in_ok-whole.whole
+    c.self.inside.refused _ c.self.invariant.within c.self.invariant.placed k
+    (omega (arith, few, counted, c.self.invariant.within, k.passes.within, length-drop c.self.inside.start c.self.inside.bytes.items)))
+
+pub returns-in_default-clause-place : goal.returns-in_default-clause-place
+returns-in_default-clause-place c =
+    let k = rw (c.deref.ensures.value, take_rest) at c.in_ok-whole.ensures.ok in
+    let few = c.self.invariant.few in
+    let counted = c.self.invariant.counted in
+    rw (← c.self.view_is)
+    (read_room c.self.inside.fed_count c.self.inside.base c.self.inside.start c.self.inside.bytes.items c.self.inside.found c.read.new.self c.in_ok-whole.whole
+    c.self.inside.refused _ k
+    (omega (arith, few, counted, c.self.invariant.within, k.passes.within, length-drop c.self.inside.start c.self.inside.bytes.items)))
