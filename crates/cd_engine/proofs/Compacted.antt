@@ -188,7 +188,7 @@ outranks_driven b max so sn ko kn (Err fault.NoMemory) h = record { failed = λ 
 -- a capture that can be compacted is accepted
 pub served_accepted : (s : Settings) (bytes : List ℕ) → IsServedCapture s bytes → IsAccepted (compacting s) s.max_input bytes
 served_accepted s bytes h =
-    let k = served_unrefused (rules_of s) bytes h.end h.packets in
+    let k = served_unrefused (rules_of s) bytes h.format h.end h.packets in
     record { few = h.few; taken = k.now; ended = k.at_end }
 
 -- a drive that is done is a compaction that is

@@ -6,7 +6,8 @@ use Rattle.std.proofs.lemmas.List.Elements.{All-nil, All-cons}
 use Rattle.cd_message.specs.MessageLaws.{AreBytes}
 use Rattle.cd_packet.specs.Capture.{Capture, after}
 use Rattle.cd_packet.specs.declared.packet.Packet.{Packet}
-use Rattle.cd_pcap.specs.Pcap.{Form, version, link_type, captured_length, packet_at, records, pcap}
+use Rattle.cd_pcap.specs.declared.form.Form.{Form}
+use Rattle.cd_pcap.specs.Pcap.{version, link_type, captured_length, packet_at, records, pcap}
 use Rattle.cd_pcap.proofs.Forms.{cases_form}
 use Rattle.cd_pcap.proofs.Records.{records-short, records-refused, records-cut, records-first, pcap-magic, pcap-short, pcap-version, pcap-records}
 use Rattle.cd_size.proofs.DatagramRanges.{dropped_bytes, taken_bytes}

@@ -14,7 +14,7 @@ use Rattle.cd_pcap.proofs.Extending.{pcap-grow}
 use Rattle.cd_pcap.proofs.Forms.{form_of-few}
 use Rattle.cd_pcap.proofs.Records.{pcap-magic, pcap-none}
 use Rattle.cd_pcap.proofs.Refusals.{packets_before}
-use Rattle.cd_engine.specs.CapturesGo.{none_chosen, other_few, other_stays, other_unread, refusal_many, at_end_other, at_end_read}
+use Rattle.cd_engine.specs.CapturesGo.{none_chosen, other_few, other_stays, refusal_many, at_end_other, at_end_read}
 use Rattle.cd_engine.specs.Counting.{is_cut, is_cut_short}
 use Rattle.cd_engine.specs.Events.{event_of}
 use Rattle.cd_engine.specs.Refusals.{is_other_format, first_unserved, refusal_of_end, refusal_after, refusal_of_capture, refusal_at_end, refusal, before_refusal, compacted_packets}
@@ -46,10 +46,6 @@ unserved-append rules (p ∷ ps) qs at e =
 -- fewer than four bytes have no packet
 pub packets-few : (bytes : List ℕ) → length bytes < 4 → (pcap bytes).packets ≡ []
 packets-few bytes few = ap (λ (c : Capture). c.packets) (pcap-magic bytes (form_of-few bytes few))
-
--- nor have bytes of another format
-pub packets-other : (bytes : List ℕ) → 4 ≤ length bytes → is_other_format bytes ≡ true → (pcap bytes).packets ≡ []
-packets-other bytes four other = ap (λ (c : Capture). c.packets) (pcap-magic bytes (other_unread bytes other))
 
 refusal_chosen : (few : Bool) (o : Option Refusal) (r : Refusal) → cond few None o ≡ Some r →
     (few ≡ false) × (o ≡ Some r)
@@ -239,18 +235,14 @@ pub record IsUnrefused (rules : EventRules) (bytes : List ℕ) : Type 0 where
   pub now : refusal rules bytes ≡ None
   pub at_end : refusal_at_end rules bytes ≡ None
 
-pub served_unrefused : (rules : EventRules) (bytes : List ℕ) → IsWholeOrCut (pcap bytes).end →
-    first_unserved rules (pcap bytes).packets ≡ None →
-    IsUnrefused rules bytes
-served_unrefused rules bytes end served =
+pub served_unrefused : (rules : EventRules) (bytes : List ℕ) → is_other_format bytes ≡ false →
+    IsWholeOrCut (pcap bytes).end → first_unserved rules (pcap bytes).packets ≡ None → IsUnrefused rules bytes
+served_unrefused rules bytes read end served =
     elim (cases_lt (length bytes) 4) [
       | inl few ↦ absurd (no_capture bytes (form_of-few bytes few) end)
-      | inr four ↦ elim (cases_Bool (is_other_format bytes)) [
-        | inl other ↦ absurd (no_capture bytes (other_unread bytes other) end)
-        | inr read ↦
-            let none : refusal_at_end rules bytes ≡ None =
-            at_end_read rules bytes read ∙ ap (λ o. refusal_after o (pcap bytes).end) served
-            ∙ open_end (pcap bytes).end end in
-            record { now = refusal_many rules bytes four ∙ none; at_end = none }
-      ]
+      | inr four ↦
+          let none : refusal_at_end rules bytes ≡ None =
+          at_end_read rules bytes read ∙ ap (λ o. refusal_after o (pcap bytes).end) served
+          ∙ open_end (pcap bytes).end end in
+          record { now = refusal_many rules bytes four ∙ none; at_end = none }
     ]

@@ -31,8 +31,8 @@ use Rattle.cd_engine.specs.declared.counts.PacketCounts.{PacketCounts}
 use Rattle.cd_engine.specs.declared.refusal.Refusal.{Refusal}
 use Rattle.cd_engine.specs.declared.refusal.Refusal.TheVariants.{BadCapture as RefusedCapture, NotYet}
 use Rattle.cd_engine.proofs.PacketCounting.{packets_more}
-use Rattle.cd_engine.proofs.Refusing.{served-append, packets-few, packets-other, compacted-at, compacted-few, compacted-other, stays_refused}
-use Rattle.cd_engine.specs.CapturesGo.{refusal_few, refusal_many, other_stays, at_end_other, at_end_read}
+use Rattle.cd_engine.proofs.Refusing.{served-append, packets-few, compacted-at, compacted-few, compacted-other, stays_refused}
+use Rattle.cd_engine.specs.CapturesGo.{packets_go_on, refusal_few, refusal_many, other_stays, at_end_other, at_end_read}
 
 -- a front of nothing is nothing
 none_of_none : (ps rest : List Packet) → ps ++ rest ≡ [] → ps ≡ []
@@ -196,8 +196,10 @@ chunk_other c r first fed chunk cleared k four other h =
     let starts : first ≡ take 4 bytes = k.starts fed (h.first k.going) in
     let many : 4 ≤ length bytes = first_many first bytes starts four in
     let same : is_other_format bytes ≡ true = first_other first bytes starts four ∙ other in
-    let reads : StandsFor r bytes h.given = k.reads fed h.given (h.reads k.going) in
-    let none : h.given ≡ [] = none_given r bytes h.given reads (packets-other bytes many same) in
+    let later = packets_go_on rules fed chunk in
+    let none : h.given ≡ [] =
+    sym h.compacted
+    ∙ none_of_none (compacted_packets rules fed) later.0 (sym later.1 ∙ compacted-other rules bytes same) in
     record {
       given = h.given;
       refused = sym (refusal_many rules bytes many ∙ at_end_other rules bytes same);

@@ -6,7 +6,8 @@ use Rattle.std.proofs.Math.Seq.{take-add}
 use Rattle.cd_packet.specs.Capture.{Capture, after}
 use Rattle.cd_packet.specs.declared.packet.Packet.{Packet}
 use Rattle.cd_pcap.specs.Fronts.{HasHeader}
-use Rattle.cd_pcap.specs.Pcap.{Form, version, link_type, captured_length, packet_at, records, pcap}
+use Rattle.cd_pcap.specs.declared.form.Form.{Form}
+use Rattle.cd_pcap.specs.Pcap.{version, link_type, captured_length, packet_at, records, pcap}
 use Rattle.cd_pcap.proofs.Forms.{cases_form}
 use Rattle.cd_pcap.proofs.Fronts.{number32_at-take, pcap-header}
 use Rattle.cd_pcap.proofs.Going.{packet_at-append}

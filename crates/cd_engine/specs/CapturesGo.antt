@@ -1,19 +1,17 @@
 -- What is refused and what is compacted as the bytes of a capture go on.
-use Rattle.std.proofs.Common.{◌≡◌, ℕ, ◌+◌, ◌<◌, ◌≤◌, Bool, true, false, List, [], ◌∷◌, ◌++◌, length, take, Option, Some, None, is_some, refl, ap, sym, ◌∙◌, subst, arith, inl, inr, nat_eq, length-append, if◌then◌else◌}
-use Rattle.std.proofs.lemmas.Bool.{cases_lt, cases_Bool, le-ltb, lt-ltb, eqb-true, false≢true}
+use Rattle.std.proofs.Common.{◌≡◌, ℕ, ◌+◌, ◌<◌, ◌≤◌, Bool, true, false, List, [], ◌∷◌, ◌++◌, length, take, Option, Some, None, is_some, refl, ap, sym, ◌∙◌, subst, arith, inl, inr, length-append, if◌then◌else◌}
+use Rattle.std.proofs.lemmas.Bool.{cases_lt, cases_Bool, le-ltb, lt-ltb}
 use Rattle.std.proofs.lemmas.List.Elements.{filter_map-append}
-use Rattle.cd_bytes.specs.Numbers.{le32}
 use Rattle.cd_ident.specs.Events.{EventParts}
 use Rattle.cd_ident.specs.declared.event_rules.EventRules.{EventRules}
 use Rattle.cd_packet.specs.Capture.{Capture, IsWholeOrCut, Grows}
-use Rattle.cd_packet.specs.Magic.{has_magic}
 use Rattle.cd_packet.specs.declared.capture.EndState.{EndState}
 use Rattle.cd_packet.specs.declared.capture.EndState.TheVariants.{Whole, Cut, Bad}
 use Rattle.cd_packet.specs.declared.packet.Packet.{Packet}
-use Rattle.cd_packet.proofs.Growing.{has_magic-append, has_magic-many, has_magic-few}
-use Rattle.cd_pcap.specs.Pcap.{is_little_micro, form_of, pcap}
+use Rattle.cd_packet.proofs.Growing.{has_magic-append, has_magic-few}
+use Rattle.cd_pcap.specs.Pcap.{pcap}
 use Rattle.cd_pcap.proofs.Extending.{pcap-grow, pcap-goes_on}
-use Rattle.cd_pcap.proofs.Forms.{form_of-few, form_of-other}
+use Rattle.cd_pcap.proofs.Forms.{form_of-few}
 use Rattle.cd_pcap.proofs.Records.{pcap-magic, pcap-none}
 use Rattle.cd_pcap.proofs.Refusals.{packets_before}
 use Rattle.cd_engine.specs.BeforePackets.{packets-place}
@@ -59,30 +57,6 @@ pub other_stays : (xs ys : List ℕ) → 4 ≤ length xs → is_other_format (xs
 unfolding is_other_format
 other_stays xs ys four =
     rw (has_magic-append 0xd4c3b2a1 xs ys four, has_magic-append 0xa1b23c4d xs ys four, has_magic-append 0x4d3cb2a1 xs ys four, has_magic-append 0x0a0d0d0a xs ys four) refl
-
--- another format, from four bytes on, is not the one that is read
-other_unread_many : (bytes : List ℕ) → 4 ≤ length bytes → is_other_format bytes ≡ true → is_little_micro bytes ≡ false
-unfolding is_other_format
-other_unread_many bytes four other =
-    elim (cases_Bool (is_little_micro bytes)) [
-      | inr other_magic ↦ other_magic
-      | inl little ↦
-          let magic : le32 0 bytes ≡ 0xa1b2c3d4 =
-          eqb-true (le32 0 bytes) 0xa1b2c3d4 (sym (has_magic-many 0xa1b2c3d4 bytes four) ∙ little) in
-          let test : (n : ℕ) → has_magic n bytes ≡ nat_eq 0xa1b2c3d4 n =
-          λ n. has_magic-many n bytes four ∙ ap (λ k. nat_eq k n) magic in
-          let none : is_other_format bytes ≡ false =
-          rw (test 0xd4c3b2a1, test 0xa1b23c4d, test 0x4d3cb2a1, test 0x0a0d0d0a) refl in
-          absurd (false≢true (sym none ∙ other))
-    ]
-
--- another format is not the one that is read
-pub other_unread : (bytes : List ℕ) → is_other_format bytes ≡ true → form_of bytes ≡ None
-other_unread bytes other =
-    elim (cases_lt (length bytes) 4) [
-      | inl few ↦ form_of-few bytes few
-      | inr four ↦ form_of-other bytes (other_unread_many bytes four other)
-    ]
 
 -- a choice that gives nothing
 pub none_chosen : (b : Bool) (x : Option ℕ) (at : ℕ) → (if b then x else Some at) ≡ None → (b ≡ true) × (x ≡ None)
@@ -217,32 +191,50 @@ compacted_of rules bytes (Some at) e there is =
     ap (λ n. (pcap (take n bytes)).packets) (sym k.place)
     ∙ packets-place bytes (served rules (pcap bytes).packets) k.rest k.first k.split
 
--- the packets that are compacted are those before the first that is not read
-pub compacted_served : (rules : EventRules) (bytes : List ℕ) →
+-- of a format that is read, the packets that are compacted are those before the first that is not read
+pub compacted_served : (rules : EventRules) (bytes : List ℕ) → is_other_format bytes ≡ false →
     compacted_packets rules bytes ≡ served rules (pcap bytes).packets
 unfolding compacted_packets
-compacted_served rules bytes =
-    elim (cases_Bool (is_other_format bytes)) [
-      | inl other ↦
-          let none : (pcap bytes).packets ≡ [] =
-          ap (λ (c : Capture). c.packets) (pcap-magic bytes (other_unread bytes other)) in
-          ap (λ o. (pcap (before_refusal o bytes)).packets) (at_end_other rules bytes other)
-          ∙ ap (λ (c : Capture). c.packets) pcap-none ∙ sym (ap (served rules) none)
-      | inr read ↦
-          ap (λ o. (pcap (before_refusal o bytes)).packets) (at_end_read rules bytes read)
-          ∙ compacted_of rules bytes (first_unserved rules (pcap bytes).packets) (pcap bytes).end refl refl
-    ]
+compacted_served rules bytes read =
+    ap (λ o. (pcap (before_refusal o bytes)).packets) (at_end_read rules bytes read)
+    ∙ compacted_of rules bytes (first_unserved rules (pcap bytes).packets) (pcap bytes).end refl refl
+
+-- of another format none is compacted
+compacted_other : (rules : EventRules) (bytes : List ℕ) → is_other_format bytes ≡ true → compacted_packets rules bytes ≡ []
+unfolding compacted_packets
+compacted_other rules bytes other =
+    ap (λ o. (pcap (before_refusal o bytes)).packets) (at_end_other rules bytes other)
+    ∙ ap (λ (c : Capture). c.packets) pcap-none
+
+-- nor is any of fewer than four bytes
+compacted_few : (rules : EventRules) (bytes : List ℕ) → length bytes < 4 → compacted_packets rules bytes ≡ []
+compacted_few rules bytes few =
+    compacted_served rules bytes (other_few bytes few)
+    ∙ ap (λ (c : Capture). served rules c.packets) (pcap-magic bytes (form_of-few bytes few))
+
+-- after no packet any may come
+none_goes_on : (now later : List Packet) → now ≡ [] → PacketsGoOn now later
+none_goes_on now later none = (later, sym (ap (λ (t : List Packet). t ++ later) none))
 
 -- the packets that are compacted stay as the bytes go on
 pub packets_go_on : (rules : EventRules) (xs ys : List ℕ) →
     PacketsGoOn (compacted_packets rules xs) (compacted_packets rules (xs ++ ys))
 packets_go_on rules xs ys =
-    let g = (pcap-goes_on xs ys).packets in
-    let k = served_goes_on rules (pcap xs).packets g.0 in (
-      k.0,
-      compacted_served rules (xs ++ ys) ∙ ap (served rules) g.1 ∙ k.1
-          ∙ ap (λ (t : List Packet). t ++ k.0) (sym (compacted_served rules xs)),
-    )
+    elim (cases_lt (length xs) 4) [
+      | inl few ↦ none_goes_on (compacted_packets rules xs) (compacted_packets rules (xs ++ ys)) (compacted_few rules xs few)
+      | inr four ↦ elim (cases_Bool (is_other_format xs)) [
+        | inl other ↦
+            none_goes_on (compacted_packets rules xs) (compacted_packets rules (xs ++ ys)) (compacted_other rules xs other)
+        | inr read ↦
+            let later : is_other_format (xs ++ ys) ≡ false = other_stays xs ys four ∙ read in
+            let g = (pcap-goes_on xs ys).packets in
+            let k = served_goes_on rules (pcap xs).packets g.0 in (
+              k.0,
+              compacted_served rules (xs ++ ys) later ∙ ap (served rules) g.1 ∙ k.1
+                  ∙ ap (λ (t : List Packet). t ++ k.0) (sym (compacted_served rules xs read)),
+            )
+      ]
+    ]
 
 -- and so do their events
 pub events_go_on : (rules : EventRules) (xs ys : List ℕ) →

@@ -11,7 +11,7 @@ use Rattle.cd_engine.specs.Compactions.{IsFileOf, IsClosedPartOf}
 use Rattle.cd_engine.specs.Counting.{AreCountsOf, no_counts}
 use Rattle.cd_engine.specs.Endings.{ended_by, IsStopped, EndsAs}
 use Rattle.cd_engine.specs.Events.{rules_of}
-use Rattle.cd_engine.specs.Refusals.{refusal, first_unserved}
+use Rattle.cd_engine.specs.Refusals.{is_other_format, refusal, first_unserved}
 use Rattle.cd_engine.specs.declared.counts.Counts.{Counts}
 use Rattle.cd_engine.specs.declared.ended.Ended.{Ended}
 use Rattle.cd_engine.specs.declared.ended.Ended.TheVariants as ended
@@ -79,9 +79,10 @@ pub record WriteOutranks (old new : SinkMeaning) (result : Ended) : Type 0 where
   pub failed : old.failed ≡ false → new.failed ≡ true → IsStopped result
   pub refused : old.refused ≡ false → new.refused ≡ true → IsStopped result
 
--- The bytes are a capture that can be compacted: it ends between records or within one, and each packet holds a
--- datagram that is read.
+-- The bytes are a capture that can be compacted: it is of the format that is read, ends between records or within one,
+-- and each packet holds a datagram that is read.
 pub record IsServedCapture (s : Settings) (bytes : List ℕ) : Type 0 where
   pub few : length bytes ≤ s.max_input
+  pub format : is_other_format bytes ≡ false
   pub end : IsWholeOrCut (pcap bytes).end
   pub packets : first_unserved (rules_of s) (pcap bytes).packets ≡ None

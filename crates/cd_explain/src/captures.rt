@@ -2,8 +2,8 @@
 
 ghost use Rattle.std.specs.Prelude.{◌≡◌};
 
+use cd_capture::CaptureReader;
 use cd_packet::{BadCapture, EndState, FeedFault, Packet};
-use cd_pcap::PcapReader;
 use std::alloc::{AllocError, Global};
 
 // The most bytes that a reader is fed.
@@ -12,7 +12,7 @@ const MOST_FED: u64 = 281_474_976_710_656;
 // A reader, and how many bytes it was fed.
 #[derive(Drop)]
 struct Feeder {
-    reader: PcapReader,
+    reader: CaptureReader,
     fed: u64,
     ghost counted: { reader.fed_count ≡ fed },
 }
@@ -21,7 +21,7 @@ impl Feeder {
     // A reader that was fed nothing.
     fn new(alloc: Global) -> Feeder {
         Feeder {
-            reader: PcapReader::new(alloc),
+            reader: CaptureReader::new(alloc),
             fed: 0,
         }
     }

@@ -2,7 +2,8 @@
 //!
 //! - A *capture* is a header and records, one a packet. `specs/Spelled.antt` says over the list of its records which
 //!   bytes are one, and `specs/Pcap.antt` what any bytes hold; `laws` joins the two. Its *form* is the order of its
-//!   numbers and the unit of its times, microseconds or nanoseconds, which the first four bytes tell (the pcap draft, 4).
+//!   numbers and the unit of its times, microseconds or nanoseconds: the first four bytes tell both (the pcap draft,
+//!   4).
 //! - A `PcapReader` is *fed* the bytes of a capture, cut into any chunks, and gives the packets that came whole.
 //! - The *mark* stands after the whole records that came. As bytes are fed it moves over their headers, each once.
 //! - A *refused place* is a header or a record that no capture can have. Nothing is read after it.
