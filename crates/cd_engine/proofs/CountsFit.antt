@@ -19,7 +19,7 @@ use Rattle.cd_message.specs.declared.message.Message.{Message}
 use Rattle.cd_message.specs.declared.message.MsgWhy.{MsgWhy}
 use Rattle.cd_message.specs.declared.message.Rr.{Rr}
 use Rattle.cd_packet.proofs.Payloads.{layer_within}
-use Rattle.cd_packet.specs.Layers.{Found, Datagram, datagram, skipped, layer_of}
+use Rattle.cd_packet.specs.Layers.{Found, Datagram, datagram, skipped}
 use Rattle.cd_packet.specs.declared.packet.Packet.{Packet}
 use Rattle.cd_pcap.specs.Laws.{record_size}
 use Rattle.cd_pcap.specs.Pcap.{pcap}
@@ -27,7 +27,8 @@ use Rattle.cd_record.specs.Cutting.{as_runs}
 use Rattle.cd_record.specs.Runs.{Limits, limits_of}
 use Rattle.cd_engine.specs.Behaving.{is_admissible, CutRecords, cut_more, cut_of, runs_of, all_records, counts_in}
 use Rattle.cd_engine.specs.Counting.{is_pair, is_cut_short, packet_counts, record_counts, counts_of, held_in_64, held_packet_counts, held_record_counts}
-use Rattle.cd_engine.specs.Events.{rules_of, event_found, event_of, events_of}
+use Rattle.cd_engine.proofs.LayersRead.{read_datagram}
+use Rattle.cd_engine.specs.Events.{rules_of, event_found, event_of, events_of, read_layer}
 use Rattle.cd_engine.specs.Refusals.{refusal_at_end, compacted_packets}
 use Rattle.cd_engine.specs.declared.counts.PacketCounts.{PacketCounts}
 use Rattle.cd_engine.specs.declared.counts.RecordCounts.{RecordCounts}
@@ -65,17 +66,17 @@ event_rrs rules d = reading_rrs rules d (message_of d.payload)
 abbrev one : EventParts → ℕ
 one e = 1
 
-found_rrs : (rules : EventRules) (p : Packet) (f : Found) → layer_of rules.port p ≡ f → 16 * of_event rrs (event_found rules f) ≤ 829 * record_size p
+found_rrs : (rules : EventRules) (p : Packet) (f : Found) → read_layer rules.port p ≡ f → 16 * of_event rrs (event_found rules f) ≤ 829 * record_size p
 found_rrs rules p (skipped r) is = omega arith
 found_rrs rules p (datagram d) is =
     elim (cases_Bool (nat_lt 65535 (length d.payload))) [
       | inl long ↦ rw long (omega arith)
-      | inr fits ↦ rw fits (omega (arith, event_rrs rules d, event_weights_are_linear rules d, layer_within rules.port p d is))
+      | inr fits ↦ rw fits (omega (arith, event_rrs rules d, event_weights_are_linear rules d, layer_within rules.port p d (read_datagram rules.port p d is)))
     ]
 
 packet_rrs : (rules : EventRules) (p : Packet) → 16 * of_event rrs (event_of rules p) ≤ 829 * record_size p
 unfolding event_of
-packet_rrs rules p = found_rrs rules p (layer_of rules.port p) refl
+packet_rrs rules p = found_rrs rules p (read_layer rules.port p) refl
 
 option_one : (o : Option EventParts) → of_event one o ≤ 1
 option_one None = omega arith

@@ -19,7 +19,7 @@ use Rattle.cd_hints.specs.declared.settings.Settings.{Settings}
 use Rattle.cd_ident.specs.Events.{EventParts}
 use Rattle.cd_ident.specs.declared.event_rules.EventRules.{EventRules}
 use Rattle.cd_message.specs.MessageLaws.{AreBytes}
-use Rattle.cd_packet.specs.Layers.{Found, datagram, skipped, layer_of}
+use Rattle.cd_packet.specs.Layers.{Found, datagram, skipped}
 use Rattle.cd_packet.specs.declared.packet.Packet.{Packet}
 use Rattle.cd_pairing.specs.Records.{Record}
 use Rattle.cd_record.specs.Blocks.{kept_block}
@@ -31,7 +31,8 @@ use Rattle.cd_size.proofs.EventTimes.{events_timed}
 use Rattle.cd_size.proofs.NamesKept.{blocks_named}
 use Rattle.cd_size.proofs.RunsReadable.{blocks_readable}
 use Rattle.cd_engine.specs.Compactions.{blocks_of, but_last}
-use Rattle.cd_engine.specs.Events.{rules_of, event_found, event_of, events_of}
+use Rattle.cd_engine.proofs.LayersRead.{read_datagram}
+use Rattle.cd_engine.specs.Events.{rules_of, event_found, event_of, events_of, read_layer}
 use Rattle.cd_engine.specs.ReadBack.{ParamsInRange, FilesAreReadBack, FilesAreKept, ClosedPartsAreReadBack}
 use Rattle.cd_engine.specs.Records.{records_at}
 use Rattle.cd_engine.specs.Refusals.{refusal_at_end, compacted_bytes, compacted_packets, compacted_events}
@@ -104,18 +105,18 @@ params_readable s valid range =
 abbrev IsKept : EventParts → Type 0
 IsKept e = EventInRange e × EventIsTimed e
 
-found_kept : (rules : EventRules) (p : Packet) → HasBytes p → (f : Found) → layer_of rules.port p ≡ f → IfSome (event_found rules f) IsKept
+found_kept : (rules : EventRules) (p : Packet) → HasBytes p → (f : Found) → read_layer rules.port p ≡ f → IfSome (event_found rules f) IsKept
 found_kept rules p bytes (skipped reason) is = tt
 found_kept rules p bytes (datagram d) is =
     elim (cases_lt 65535 (length d.payload)) [
       | inl long ↦ rw (lt-ltb 65535 (length d.payload) long) tt
       | inr short ↦ rw (le-ltb 65535 (length d.payload) short)
-          (events_in_range rules d (datagrams_in_range rules.port p d bytes is), events_timed rules p d is short)
+          (events_in_range rules d (datagrams_in_range rules.port p d bytes (read_datagram rules.port p d is)), events_timed rules p d (read_datagram rules.port p d is) short)
     ]
 
 packet_kept : (rules : EventRules) (p : Packet) → HasBytes p → IfSome (event_of rules p) IsKept
 unfolding event_of
-packet_kept rules p bytes = found_kept rules p bytes (layer_of rules.port p) refl
+packet_kept rules p bytes = found_kept rules p bytes (read_layer rules.port p) refl
 
 events_kept : (rules : EventRules) (ps : List Packet) → All HasBytes ps → All IsKept (events_of rules ps)
 events_kept rules [] all = All-nil IsKept

@@ -19,3 +19,4 @@ pub mod Compacted
 pub mod EventsHave
 pub mod PacketBytes
 pub mod FilesReadBack
+pub mod LayersRead

@@ -7,11 +7,11 @@ use Rattle.cd_ident.specs.Events.{EventParts}
 use Rattle.cd_ident.specs.declared.event.Kind.{Kind}
 use Rattle.cd_ident.specs.declared.event.Kind.TheVariants.{Query, Response, Malformed, Discarded}
 use Rattle.cd_ident.specs.declared.event_rules.EventRules.{EventRules}
-use Rattle.cd_packet.specs.Layers.{Found, datagram, skipped, layer_of}
+use Rattle.cd_packet.specs.Layers.{Found, datagram, skipped}
 use Rattle.cd_packet.specs.declared.packet.Packet.{Packet}
 use Rattle.cd_pcap.specs.Laws.{record_size}
 use Rattle.cd_engine.specs.Counting.{kind_index, is_of_kind, is_for_reason, is_skipped_for, packet_counts, packet_counts_with, held_in_64, held_packet_counts}
-use Rattle.cd_engine.specs.Events.{event_found, event_of}
+use Rattle.cd_engine.specs.Events.{event_found, event_of, read_layer}
 
 -- what is held of a number and one more is what is held of one more
 held_more : (n : ℕ) → held_in_64 (held_in_64 n + 1) ≡ held_in_64 (n + 1)
@@ -43,7 +43,7 @@ found_unskipped rules (skipped why) e k is = absurd cc
 
 unskipped : (rules : EventRules) (p : Packet) (e : EventParts) (k : ℕ) → event_of rules p ≡ Some e → is_skipped_for rules k p ≡ false
 unfolding event_of
-unskipped rules p e k is = found_unskipped rules (layer_of rules.port p) e k is
+unskipped rules p e k is = found_unskipped rules (read_layer rules.port p) e k is
 
 -- the kind of its event is the packet's
 kind_told : (rules : EventRules) (p : Packet) (e : EventParts) (k : ℕ) → event_of rules p ≡ Some e → is_of_kind rules k p ≡ nat_eq (kind_index e.kind) k

@@ -10,7 +10,7 @@ use Rattle.cd_ident.specs.Events.{EventParts}
 use Rattle.cd_ident.specs.declared.event.Kind.{Kind}
 use Rattle.cd_ident.specs.declared.event.Kind.TheVariants as kind
 use Rattle.cd_ident.specs.declared.event_rules.EventRules.{EventRules}
-use Rattle.cd_packet.specs.Layers.{Found, datagram, skipped, layer_of}
+use Rattle.cd_packet.specs.Layers.{Found, datagram, skipped}
 use Rattle.cd_packet.specs.declared.capture.EndState.{EndState}
 use Rattle.cd_packet.specs.declared.capture.EndState.TheVariants.{Whole, Cut, Bad}
 use Rattle.cd_packet.specs.declared.datagram.Reason.{Reason}
@@ -19,7 +19,7 @@ use Rattle.cd_packet.specs.declared.packet.Packet.{Packet}
 use Rattle.cd_pairing.specs.Records.{records}
 use Rattle.cd_pcap.specs.Pcap.{pcap}
 use Rattle.cd_engine.specs.Compactions.{Compaction}
-use Rattle.cd_engine.specs.Events.{rules_of, event_of}
+use Rattle.cd_engine.specs.Events.{rules_of, event_of, read_layer}
 use Rattle.cd_engine.specs.Records.{records_at}
 use Rattle.cd_engine.specs.Refusals.{refusal_at_end, compacted_packets, compacted_events}
 use Rattle.cd_engine.specs.declared.refusal.Refusal.{Refusal}
@@ -57,7 +57,7 @@ is_for_reason k (skipped why) = nat_eq (reason_index why) k
 
 -- whether a packet is skipped for the reason with this number
 abbrev pub is_skipped_for : EventRules → ℕ → Packet → Bool
-is_skipped_for rules k p = is_for_reason k (layer_of rules.port p)
+is_skipped_for rules k p = is_for_reason k (read_layer rules.port p)
 
 -- what is counted of these packets
 abbrev pub packet_counts : EventRules → List Packet → PacketCounts

@@ -8,7 +8,7 @@ ghost use Rattle.cd_pcap.specs.Laws.{record_size};
 ghost use Rattle.cd_engine.specs.Events.{event_of};
 
 use cd_ident::{Event, EventRules};
-use cd_packet::{Layer, Packet, layers};
+use cd_packet::{Layer, Packet, is_ethernet_ipv4, layers};
 use std::alloc::{AllocError, Global};
 
 /// The event of a packet, where its layers hold a datagram from or to the port of DNS. An `Err` is for want of memory.
@@ -21,6 +21,9 @@ pub(crate) fn event_of(
     ensures weight { IfOk result (λ found. IfSome found (λ e. e.weight ≤ GREATEST_WEIGHT)) }
     ensures linear { IfOk result (λ found. IfSome found (λ e. 16 * e.weight ≤ 829 * record_size packet.now)) }
 {
+    if !is_ethernet_ipv4(packet) {
+        return Ok(None);
+    }
     match layers(packet, rules.port) {
         Layer::Dgram(datagram) => {
             let event = cd_ident::event_of(alloc, &datagram, rules)?;
