@@ -28,6 +28,167 @@ pub struct Tables {
     pub(crate) malformed_message_data: ValueTable<BlockData>,
 }
 
+// The tables of single values, as they grow and as lists.
+#[derive(Drop)]
+struct ValueTables {
+    ip_address: SliceTable<u8>,
+    classtype: ValueTable<(u16, u16)>,
+    name_rdata: SliceTable<u8>,
+}
+
+#[derive(Drop)]
+struct ValueLists {
+    ip_address: List<Blob>,
+    classtype: List<(u16, u16)>,
+    name_rdata: List<Blob>,
+}
+
+fn value_lists(alloc: Global, tables: ValueTables) -> Result<ValueLists, AllocError>
+    ensures { IfOk result (λ l. l ≡ record {
+      ip_address = tables.ip_address;
+      classtype = tables.classtype;
+      name_rdata = tables.name_rdata;
+    }) }
+{
+    Ok(ValueLists {
+        ip_address: tables.ip_address.into_blobs(alloc)?,
+        classtype: tables.classtype.into_list(alloc)?,
+        name_rdata: tables.name_rdata.into_blobs(alloc)?,
+    })
+}
+
+// The tables of signatures and questions, as they grow and as lists.
+#[derive(Drop)]
+struct QuestionTables {
+    qr_sig: ValueTable<BlockSig>,
+    qlist: SliceTable<u64>,
+    qrr: ValueTable<BlockQuestion>,
+}
+
+#[derive(Drop)]
+struct QuestionLists {
+    qr_sig: List<BlockSig>,
+    qlist: List<List<u64>>,
+    qrr: List<BlockQuestion>,
+}
+
+fn question_lists(alloc: Global, tables: QuestionTables) -> Result<QuestionLists, AllocError>
+    ensures { IfOk result (λ l. l ≡ record { qr_sig = tables.qr_sig; qlist = tables.qlist; qrr = tables.qrr }) }
+{
+    Ok(QuestionLists {
+        qr_sig: tables.qr_sig.into_list(alloc)?,
+        qlist: tables.qlist.into_lists(alloc)?,
+        qrr: tables.qrr.into_list(alloc)?,
+    })
+}
+
+// The tables of resource records and of the data of malformed messages, as they grow and as lists.
+#[derive(Drop)]
+struct RecordTables {
+    rrlist: SliceTable<u64>,
+    rr: ValueTable<BlockRr>,
+    malformed_message_data: ValueTable<BlockData>,
+}
+
+#[derive(Drop)]
+struct RecordLists {
+    rrlist: List<List<u64>>,
+    rr: List<BlockRr>,
+    malformed_message_data: List<BlockData>,
+}
+
+fn record_lists(alloc: Global, tables: RecordTables) -> Result<RecordLists, AllocError>
+    ensures { IfOk result (λ l. l ≡ record {
+      rrlist = tables.rrlist;
+      rr = tables.rr;
+      malformed_message_data = tables.malformed_message_data;
+    }) }
+{
+    Ok(RecordLists {
+        rrlist: tables.rrlist.into_lists(alloc)?,
+        rr: tables.rr.into_list(alloc)?,
+        malformed_message_data: tables.malformed_message_data.into_list(alloc)?,
+    })
+}
+
+// All tables, as they grow and as lists.
+#[derive(Drop)]
+struct TableGroups {
+    values: ValueTables,
+    questions: QuestionTables,
+    records: RecordTables,
+}
+
+#[derive(Drop)]
+struct ListGroups {
+    values: ValueLists,
+    questions: QuestionLists,
+    records: RecordLists,
+}
+
+fn groups_of(tables: Tables) -> TableGroups
+    ensures { result ≡ record {
+      values = record {
+        ip_address = tables.ip_address;
+        classtype = tables.classtype;
+        name_rdata = tables.name_rdata;
+      };
+      questions = record { qr_sig = tables.qr_sig; qlist = tables.qlist; qrr = tables.qrr };
+      records = record {
+        rrlist = tables.rrlist;
+        rr = tables.rr;
+        malformed_message_data = tables.malformed_message_data;
+      };
+    } }
+{
+    TableGroups {
+        values: ValueTables {
+            ip_address: tables.ip_address,
+            classtype: tables.classtype,
+            name_rdata: tables.name_rdata,
+        },
+        questions: QuestionTables {
+            qr_sig: tables.qr_sig,
+            qlist: tables.qlist,
+            qrr: tables.qrr,
+        },
+        records: RecordTables {
+            rrlist: tables.rrlist,
+            rr: tables.rr,
+            malformed_message_data: tables.malformed_message_data,
+        },
+    }
+}
+
+fn lists_of(alloc: Global, tables: TableGroups) -> Result<ListGroups, AllocError>
+    ensures { IfOk result (λ l. l ≡ record {
+      values = record {
+        ip_address = tables.values.ip_address;
+        classtype = tables.values.classtype;
+        name_rdata = tables.values.name_rdata;
+      };
+      questions = record {
+        qr_sig = tables.questions.qr_sig;
+        qlist = tables.questions.qlist;
+        qrr = tables.questions.qrr;
+      };
+      records = record {
+        rrlist = tables.records.rrlist;
+        rr = tables.records.rr;
+        malformed_message_data = tables.records.malformed_message_data;
+      };
+    }) }
+{
+    let values = value_lists(alloc, tables.values)?;
+    let questions = question_lists(alloc, tables.questions)?;
+    let records = record_lists(alloc, tables.records)?;
+    Ok(ListGroups {
+        values,
+        questions,
+        records,
+    })
+}
+
 impl Tables {
     /// Tables that hold nothing.
     pub fn new(alloc: Global) -> Tables
@@ -204,21 +365,22 @@ impl Tables {
     ) -> Result<Block, AllocError>
         ensures { IfOk result (λ b. b ≡ block_of kept.now items.items malformed.items self) }
     {
+        let lists = lists_of(alloc, groups_of(self))?;
         Ok(Block {
             earliest: kept.earliest,
             params: kept.params,
             stats: kept.stats,
             items: List::from_vec(items),
             malformed: List::from_vec(malformed),
-            ip_address: self.ip_address.into_blobs(alloc)?,
-            classtype: self.classtype.into_list(alloc)?,
-            name_rdata: self.name_rdata.into_blobs(alloc)?,
-            qr_sig: self.qr_sig.into_list(alloc)?,
-            qlist: self.qlist.into_lists(alloc)?,
-            qrr: self.qrr.into_list(alloc)?,
-            rrlist: self.rrlist.into_lists(alloc)?,
-            rr: self.rr.into_list(alloc)?,
-            malformed_message_data: self.malformed_message_data.into_list(alloc)?,
+            ip_address: lists.values.ip_address,
+            classtype: lists.values.classtype,
+            name_rdata: lists.values.name_rdata,
+            qr_sig: lists.questions.qr_sig,
+            qlist: lists.questions.qlist,
+            qrr: lists.questions.qrr,
+            rrlist: lists.records.rrlist,
+            rr: lists.records.rr,
+            malformed_message_data: lists.records.malformed_message_data,
         })
     }
 }
