@@ -1,5 +1,5 @@
 -- What a capture becomes as its bytes go on, and how much of it its packets take.
-use Rattle.std.proofs.Common.{◌≡◌, ℕ, ◌≤◌, ◌<◌, Bool, true, false, cond, nat_lt, List, [], ◌++◌, length, take, Option, Some, None, refl, ap, sym, ◌∙◌, inl, inr, arith, subst, length-append}
+use Rattle.std.proofs.Common.{◌≡◌, ℕ, ◌≤◌, ◌<◌, Bool, true, false, cond, nat_lt, List, ◌++◌, length, Some, None, refl, ap, sym, ◌∙◌, inl, inr, arith, subst, length-append}
 use Rattle.std.specs.List.{sum_by}
 use Rattle.std.proofs.lemmas.Bool.{cases_lt, cases_Bool, le-ltb, ltb-false, lt-ltb}
 use Rattle.cd_packet.proofs.Growing.{grows_at}
@@ -7,7 +7,6 @@ use Rattle.cd_packet.specs.Capture.{Capture, Grows}
 use Rattle.cd_packet.specs.declared.capture.BadCapture.{BadCapture}
 use Rattle.cd_packet.specs.declared.capture.EndState.{EndState}
 use Rattle.cd_packet.specs.declared.capture.EndState.TheVariants.{Whole, Cut, Bad}
-use Rattle.cd_packet.specs.declared.packet.Packet.{Packet}
 use Rattle.cd_pcap.proofs.Extending.{pcap-grow}
 use Rattle.cd_pcap.proofs.Refusals as pcap_refusals
 use Rattle.cd_pcap.proofs.Sizes as pcap_sizes

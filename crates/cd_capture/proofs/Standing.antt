@@ -1,9 +1,7 @@
 -- What a reader that stands for a history knows of the bytes fed, and how it goes on, from what the reader of the format
 -- does.
-use Rattle.std.proofs.Common.{◌≡◌, ℕ, ◌+◌, ◌-◌, ◌<◌, ◌≤◌, ◌^◌, Bool, true, false, List, [], ◌∷◌, ◌++◌, length, take, Option, Some, None, Result, Ok, Err, refl, ap, sym, ◌∙◌, arith, subst, length-append}
+use Rattle.std.proofs.Common.{◌≡◌, ℕ, ◌+◌, ◌<◌, ◌≤◌, true, false, List, [], ◌++◌, length, Option, Some, None, Result, Ok, Err, refl, ap, sym, ◌∙◌, arith, subst, length-append}
 use Rattle.std.specs.List.{sum_by}
-use Rattle.std.proofs.lemmas.List.{append-nil}
-use Rattle.std.proofs.lemmas.List.Sums.{sum_by-cons}
 use Rattle.std.specs.declared.alloc.AllocError.{AllocError}
 use Rattle.arrayvec.specs.ArrayVec.{ArrayVec}
 use Rattle.cd_packet.specs.Capture.{Capture}
@@ -27,8 +25,8 @@ use Rattle.cd_pcapng.proofs.Capturing.{pcapng-none}
 use Rattle.cd_pcapng.proofs.Standing as pcapng_standing
 use Rattle.cd_capture.specs.Formats.{capture}
 use Rattle.cd_capture.specs.Giving.{Feeds, RefusesAgain, Gives, AnswersFor}
-use Rattle.cd_capture.specs.Laws.{GivenAreFirst, record_size}
-use Rattle.cd_capture.specs.Reading.{Kept, kept_at, HasRoom, StageStands, StandsFor, refusal_in, refusal_of}
+use Rattle.cd_capture.specs.Laws.{GivenAreFirst}
+use Rattle.cd_capture.specs.Reading.{kept_at, StageStands, refusal_in, refusal_of}
 use Rattle.cd_capture.specs.declared.stage.Stage.{Stage}
 use Rattle.cd_capture.specs.declared.stage.Stage.TheVariants.{Undecided, Pcap, Pcapng}
 use Rattle.cd_capture.proofs.Growing.{refusal-many, refusal-few}
@@ -147,13 +145,6 @@ pcapng_gives old new (Ok None) gives fed given h =
     let k = gives fed given h.2 in
     ((h.0, h.1, k.0), ap (λ (c : Capture). c.packets) (capture-section fed h.1) ∙ k.1)
 pcapng_gives old new (Err e) gives fed given h = tt
-
--- what the reader of pcapng reads has room for the packets that came
-pub pcapng_room : (old new : pcapng_reader.Kept) → HasRoom (Pcapng old) → pcapng_giving.HasRoom old new →
-    HasRoom (Pcapng new)
-    × (old.at - sum_by least_block_length old.ready ≤ new.at - sum_by least_block_length new.ready)
-pcapng_room old new room more =
-    ((omega (arith, room.0, more.packets), more.few), omega (arith, room.0, more.packets))
 
 -- from four bytes on, the answer is that for the end of the bytes fed
 many_feeds : {U : Type 0} (stage : Stage) (fed : List ℕ) (given : List Packet) (e : EndState) (result : Result U FeedFault) →

@@ -1,13 +1,12 @@
 -- What the first four bytes of a capture tell.
-use Rattle.std.proofs.Common.{◌≡◌, ℕ, true, false, nat_eq, ◌+◌, ◌-◌, ◌<◌, ◌≤◌, List, [], ◌++◌, length, take, drop, Some, None, refl, ap, sym, ◌∙◌, inl, inr, arith, append_assoc, length-append}
-use Rattle.std.proofs.lemmas.Bool.{cases_lt, cases_Bool, eqb-true, false≢true}
+use Rattle.std.proofs.Common.{◌≡◌, ℕ, true, false, nat_eq, ◌+◌, ◌-◌, ◌<◌, ◌≤◌, List, [], ◌++◌, length, take, drop, Some, refl, ap, sym, ◌∙◌, inl, inr, arith, append_assoc, length-append}
+use Rattle.std.proofs.lemmas.Bool.{cases_lt, eqb-true}
 use Rattle.std.proofs.lemmas.List.{length-take, take-append-drop}
 use Rattle.cd_bytes.specs.Numbers.{le32}
 use Rattle.cd_packet.proofs.Growing.{has_magic-append, has_magic-few, has_magic-many}
 use Rattle.cd_packet.specs.Capture.{Capture, refused_capture}
 use Rattle.cd_packet.specs.Magic.{has_magic}
 use Rattle.cd_packet.specs.declared.capture.CaptureWhy.TheVariants.{Magic}
-use Rattle.cd_packet.specs.declared.packet.Packet.{Packet}
 use Rattle.cd_pcap.specs.Pcap.{form_of, pcap}
 use Rattle.cd_pcap.specs.declared.form.Form.{Form}
 use Rattle.cd_pcap.proofs.Forms.{form_of-few, form_told}

@@ -1,5 +1,5 @@
 -- What is known of each capture, of each reader, and of the refused place of a capture.
-use Rattle.std.specs.Prelude.{◌≡◌, ℕ, ◌+◌, ◌<◌, ◌≤◌, true, false, List, [], ◌∷◌, ◌++◌, length, take, Some, None}
+use Rattle.std.specs.Prelude.{◌≡◌, ℕ, ◌+◌, ◌<◌, ◌≤◌, true, false, List, [], ◌++◌, length, take, Some, None}
 use Rattle.std.specs.List.{sum_by}
 use Rattle.cd_packet.specs.Capture.{refused_capture, Grows}
 use Rattle.cd_packet.specs.declared.capture.BadCapture.{BadCapture}
