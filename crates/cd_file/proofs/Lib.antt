@@ -13,3 +13,7 @@ pub mod HeadsOf
 pub mod PreambleSize
 pub mod HeadsSeen
 pub mod Elements
+pub mod FaultsWithin
+pub mod FrontsJudged
+pub mod ItemsScanned
+pub mod PartsRead

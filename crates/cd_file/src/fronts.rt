@@ -2,16 +2,16 @@
 //! head of the array of blocks, a block, and what closes the file. Each call answers the part and its size, or how the file
 //! ends there.
 
-mod closing;
 mod ending;
+mod file_end;
 mod heads;
 mod item;
 mod parts;
 mod stubs;
 mod title;
 
-pub use closing::{closing, nothing_more};
 pub use ending::{Ending, Unread};
+pub use file_end::{closing, nothing_more};
 pub use heads::{Head, count_front, element_head, outer_front, title_head};
 pub use item::ItemScan;
 pub use parts::{block_front, preamble_front};

@@ -8,7 +8,7 @@ use crate::refusal::FileWhy;
 use cd_cbor::{CborFault, Why};
 
 /// How a file ends where a part of it was to stand.
-#[derive(Clone, Copy, Debug, PartialEq, Eq)]
+#[derive(Clone, Copy)]
 pub enum Ending {
     /// It is whole, and nothing follows it.
     Whole,
@@ -19,7 +19,7 @@ pub enum Ending {
 }
 
 /// Why a preamble or a block was not read.
-#[derive(Clone, Copy, Debug, PartialEq, Eq)]
+#[derive(Clone, Copy)]
 pub enum Unread {
     /// The file ends so.
     Ended(Ending),

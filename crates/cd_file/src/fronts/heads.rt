@@ -1,7 +1,8 @@
 //! The heads at the front of some bytes, judged before the rest of their items is there (RFC 8949 3).
 
-ghost use Rattle.std.specs.Prelude.{◌≡◌, ◌+◌, ◌<◌, ◌≤◌, ◌^◌, List, length, IfOk, IfErr};
+ghost use Rattle.std.specs.Prelude.{◌≡◌, ◌+◌, ◌<◌, ◌≤◌, ◌^◌, [], List, length, IfOk, IfErr};
 ghost use Rattle.cd_cbor.specs.Readings.{Gives, LiesWithin};
+ghost use Rattle.cd_cbor.specs.declared.fault.CborFault.TheVariants as fault;
 ghost use Rattle.cd_file.specs.ItemHeads as heads;
 ghost use Rattle.cd_file.specs.ReadFile as files;
 ghost use Rattle.cd_file.specs.Fronts.{GivesFront, head_of};
@@ -32,7 +33,7 @@ const OUTER_COUNT: u64 = 3;
 const TITLE_SIZE: u64 = 5;
 
 /// A head: its major type, and its argument, which is absent where the length is indefinite.
-#[derive(Clone, Copy, Debug)]
+#[derive(Clone, Copy)]
 pub struct Head {
     /// The major type.
     pub kind: MajorType,
@@ -42,7 +43,7 @@ pub struct Head {
 
 // A fault of the head at the front.
 fn bad_head(why: Why) -> CborFault
-    ensures { result ≡ CborFault.Bad 0 why }
+    ensures { result ≡ fault.Bad 0 why }
 {
     CborFault::Bad { at: 0, why }
 }

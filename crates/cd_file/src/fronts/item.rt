@@ -3,7 +3,7 @@
 ghost use Rattle.std.specs.Prelude.{◌≡◌, ℕ, ◌+◌, ◌<◌, ◌≤◌, ◌^◌, List, length, take, IfOk};
 ghost use Rattle.cd_cbor.specs.Spells.{most_depth};
 ghost use Rattle.cd_file.specs.ReadFile as files;
-ghost use Rattle.cd_file.specs.Fronts.{StandsForItem, JudgesItem};
+ghost use Rattle.cd_file.specs.Fronts.{ending_of, StandsForItem, JudgesItem};
 
 use super::ending::Ending;
 use crate::refusal::FileWhy;

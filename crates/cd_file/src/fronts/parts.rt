@@ -21,6 +21,16 @@ pub const PREAMBLE_DEPTH: usize = 15;
 /// So many arrays, maps and tags may be open in a block, which stands in the array of blocks.
 pub const BLOCK_DEPTH: usize = 14;
 
+// This is the major type of a map.
+fn is_map(kind: MajorType) -> bool
+    ensures { result ≡ files.is_map kind }
+{
+    match kind {
+        MajorType::Map => true,
+        _ => false,
+    }
+}
+
 /// The block parameters of the preamble at the front of the bytes held, which stand at an offset of the file, and the size of
 /// the preamble. The scan is that of the preamble.
 #[tactic(auto, unfolding(crate::specs::ReadFile::preamble_front))]
@@ -41,7 +51,7 @@ pub fn preamble_front(
         Ok(found) => found,
         Err(ending) => return Err(Unread::Ended(ending)),
     };
-    if head.kind != MajorType::Map {
+    if !is_map(head.kind) {
         return Err(Unread::Ended(Ending::Refused(FileWhy::NotCdns)));
     }
     let size = match scan.judge(held, at) {
@@ -50,15 +60,8 @@ pub fn preamble_front(
     };
     match params_of(alloc, held, PREAMBLE_DEPTH, 0) {
         Ok((entries, _end)) => Ok((entries, size)),
-        Err(fault) => Err(unread(fault)),
-    }
-}
-
-// Why a preamble or a block was not read of which the item is refused.
-fn unread(fault: ItemFault) -> Unread {
-    match fault {
-        ItemFault::Refused(why) => Unread::Ended(Ending::Refused(why)),
-        ItemFault::NoMemory => Unread::NoMemory,
+        Err(ItemFault::Refused(why)) => Err(Unread::Ended(Ending::Refused(why))),
+        Err(ItemFault::NoMemory) => Err(Unread::NoMemory),
     }
 }
 
@@ -84,7 +87,8 @@ pub fn block_front(
     };
     let block = match block_of(alloc, held, BLOCK_DEPTH, 0) {
         Ok((block, _end)) => block,
-        Err(fault) => return Err(unread(fault)),
+        Err(ItemFault::Refused(why)) => return Err(Unread::Ended(Ending::Refused(why))),
+        Err(ItemFault::NoMemory) => return Err(Unread::NoMemory),
     };
     if block.params < entry_count as u64 {
         Ok((block, size))

@@ -1,6 +1,7 @@
 //! The title of a file: the text "C-DNS" (RFC 8618 7.3), at once or in chunks.
 
-ghost use Rattle.std.specs.Prelude.{◌≡◌, ◌+◌, ◌<◌, ◌≤◌, ◌^◌, ◌++◌, List, length, IfOk, IfErr};
+ghost use Rattle.std.specs.Prelude.{◌≡◌, ◌+◌, ◌<◌, ◌≤◌, ◌^◌, ◌++◌, true, List, length, IfOk, IfErr};
+ghost use Rattle.cd_cbor.specs.Reading as reading;
 ghost use Rattle.cd_cbor.specs.Readings.{Gives, LiesWithin};
 ghost use Rattle.cd_file.specs.ItemHeads as heads;
 ghost use Rattle.cd_file.specs.ReadFile as files;
@@ -22,7 +23,7 @@ const TITLE_SIZE: u64 = 5;
 pub fn is_title(content: &[u8]) -> bool
     ensures { result ≡ files.is_title content.now }
 {
-    content == b"C-DNS"
+    content == b"C-DNS".as_slice()
 }
 
 /// The title at the front, behind a head of this size, at an offset of the file, and the size of both.
