@@ -14,6 +14,5 @@ pub mod PreambleSize
 pub mod HeadsSeen
 pub mod Elements
 pub mod FaultsWithin
-pub mod FrontsJudged
 pub mod ItemsScanned
 pub mod PartsRead

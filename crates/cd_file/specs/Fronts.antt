@@ -46,8 +46,8 @@ LiesBelow most at fault.NoMemory = Unit {0}
 abbrev pub head_of : Head → ItemHead
 head_of head = record { kind = head.kind; argument = head.argument }
 
--- A scan of an item in which so many arrays, maps and tags may be open stands for the bytes of it that are held: for those
--- that are judged, at most as many as the longest preamble or block has.
+-- A scan of an item in which so many arrays, maps and tags may be open stands for the bytes of it that are held: for
+-- those that are judged, at most as many as the longest preamble or block has.
 pub record StandsForItem (depth : ℕ) (mark : Mark) (held : List ℕ) : Type 0 where
   pub deep : mark.depth ≡ depth
   pub marked : IsMarked 0 mark (take most_item held)

@@ -5,10 +5,8 @@ ghost use Rattle.cd_file.specs.ReadFile as files;
 ghost use Rattle.cd_file.specs.Fronts.{ending_of};
 
 use super::ending::Ending;
+use super::heads::BREAK;
 use crate::refusal::FileWhy;
-
-// The break that ends what has no definite length.
-const BREAK: u8 = 0xff;
 
 /// How a file ends where nothing may stand any more.
 pub fn nothing_more(held: &[u8]) -> Ending

@@ -11,14 +11,14 @@ use super::ending::{Ending, ending_at};
 use crate::refusal::FileWhy;
 use cd_cbor::{CborFault, MOST_STRING, MajorType, Why, argument_at, byte_at, major_type_of};
 
-// The additional information from which on a head tells no argument; 31 alone is used of it (RFC 8949 3).
-const NO_ARGUMENT: u8 = 28;
+/// The additional information from which on a head tells no argument; 31 alone is used of it (RFC 8949 3).
+pub const NO_ARGUMENT: u8 = 28;
 
 // The additional information of an indefinite length, and of a break.
 const INDEFINITE: u8 = 31;
 
-// The break that ends what has no definite length.
-const BREAK: u8 = 0xff;
+/// The break that ends what has no definite length.
+pub const BREAK: u8 = 0xff;
 
 // The first byte of a simple value of two bytes.
 const SIMPLE: u8 = 0xf8;
@@ -29,8 +29,8 @@ const LEAST_SIMPLE: u64 = 32;
 // How many items the outer array of a file has (RFC 8618 7.3).
 const OUTER_COUNT: u64 = 3;
 
-// How many bytes the title of a file has.
-const TITLE_SIZE: u64 = 5;
+/// How many bytes the title of a file has.
+pub const TITLE_SIZE: u64 = 5;
 
 /// A head: its major type, and its argument, which is absent where the length is indefinite.
 #[derive(Clone, Copy)]
@@ -133,8 +133,8 @@ fn begins_with_break(held: &[u8]) -> bool
     !held.is_empty() && held[0] == BREAK
 }
 
-/// The head of an element of the outer array, which may be open, at an offset of the file, and its size. A break is no fault
-/// where it ends the array, but no C-DNS file.
+/// The head of an element of the outer array, which may be open, at an offset of the file, and its size. A break is no
+/// fault where it ends the array, but this is no C-DNS file then.
 #[tactic(auto, unfolding(crate::specs::ReadFile::element_head))]
 pub fn element_head(held: &[u8], is_open: bool, at: u64) -> Result<(Head, usize), Ending>
     requires { at + length held.now < 2 ^ 64 }

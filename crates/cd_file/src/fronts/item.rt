@@ -13,8 +13,8 @@ use std::marker::Model;
 /// The longest preamble or block, in bytes.
 pub const MOST_ITEM: usize = 134_217_728;
 
-/// Judges the preamble or a block, whose bytes come in pieces, and keeps them nowhere. Each call is given all bytes of it so
-/// far; of them at most the first 134,217,728 are judged.
+/// Judges the preamble or a block, whose bytes come in pieces, and keeps them nowhere. Each call is given all bytes of it
+/// so far; of them at most the first 134,217,728 are judged.
 #[derive(Drop)]
 pub struct ItemScan {
     scan: Scan,
@@ -50,7 +50,7 @@ impl ItemScan {
         }
     }
 
-    /// The size of the item at the front of the bytes held, which stand at an offset of the file, once the item is whole.
+    /// The size of the item at the front of the bytes held, which stand at an offset of the file, once it is whole.
     pub fn judge(&mut self, held: &[u8], at: u64) -> Result<usize, Ending>
         requires stands { StandsForItem self.old.depth self.old held.now }
         requires at { at + length held.now < 2 ^ 64 }

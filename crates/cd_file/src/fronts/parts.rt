@@ -31,8 +31,8 @@ fn is_map(kind: MajorType) -> bool
     }
 }
 
-/// The block parameters of the preamble at the front of the bytes held, which stand at an offset of the file, and the size of
-/// the preamble. The scan is that of the preamble.
+/// The block parameters of the preamble at the front of the bytes held, which stand at an offset of the file, and the
+/// size of the preamble. The scan is that of the preamble.
 #[tactic(auto, unfolding(crate::specs::ReadFile::preamble_front))]
 pub fn preamble_front(
     alloc: Global,
@@ -65,8 +65,8 @@ pub fn preamble_front(
     }
 }
 
-/// The block at the front of the bytes held, which stand at an offset of the file, and its size. The scan is that of the block,
-/// and the file has so many block parameters.
+/// The block at the front of the bytes held, which stand at an offset of the file, and its size. The scan is that of the
+/// block, and the file has so many block parameters.
 #[tactic(auto, unfolding(crate::specs::ReadFile::block_front))]
 pub fn block_front(
     alloc: Global,

@@ -1,5 +1,7 @@
 //! Stands in for the calls that read block parameters and blocks where their items stand, until those are there.
 
+ghost use Rattle.std.specs.Prelude.{◌≤◌};
+ghost use Rattle.cd_cbor.specs.Spells.{most_depth};
 ghost use Rattle.cd_file.specs.ItemReading.{ReadsItem};
 ghost use Rattle.cd_file.specs.ReadHead.{read_params};
 ghost use Rattle.cd_file.specs.ReadBlock.{read_block};
@@ -16,6 +18,7 @@ pub fn params_of(
     depth: usize,
     at: usize,
 ) -> Result<(List<Params>, usize), ItemFault>
+    requires { depth ≤ most_depth }
     ensures { ReadsItem (λ e. e) result depth bytes.now at read_params }
 {
     Err(ItemFault::NoMemory)
@@ -28,6 +31,7 @@ pub fn block_of(
     depth: usize,
     at: usize,
 ) -> Result<(Block, usize), ItemFault>
+    requires { depth ≤ most_depth }
     ensures { ReadsItem (λ b. b) result depth bytes.now at read_block }
 {
     Err(ItemFault::NoMemory)

@@ -8,16 +8,11 @@ ghost use Rattle.cd_file.specs.ReadFile as files;
 ghost use Rattle.cd_file.specs.Fronts.{GivesFront};
 
 use super::ending::{Ending, ending_at};
+use super::heads::{NO_ARGUMENT, TITLE_SIZE};
 use crate::refusal::FileWhy;
 use cd_cbor::{
     CborFault, MOST_STRING, MajorType, Why, argument_at, byte_at, content_at, major_type_of,
 };
-
-// The additional information from which on a head tells no argument (RFC 8949 3).
-const NO_ARGUMENT: u8 = 28;
-
-// How many bytes the title of a file has.
-const TITLE_SIZE: u64 = 5;
 
 /// A text is the title of a file.
 pub fn is_title(content: &[u8]) -> bool
@@ -84,8 +79,8 @@ fn is_chunk(first: u8) -> bool
     first / 32 == MajorType::Text.number() && first % 32 < NO_ARGUMENT
 }
 
-/// The chunk at the front of a title in chunks, of which these bytes came before, at an offset of the file, and the size of
-/// the chunk with its head.
+/// The chunk at the front of a title in chunks, of which these bytes came before, at an offset of the file, and the size
+/// of the chunk with its head.
 #[tactic(auto, unfolding(crate::specs::ReadFile::chunk_front))]
 pub fn chunk_front<'held>(
     title: &[u8],

@@ -1,8 +1,7 @@
 -- What is read of the item at the front is read of the block.
-use Rattle.std.proofs.Common.{◌≡◌, ◌<◌, Ok, sym, ◌∙◌, arith}
+use Rattle.std.proofs.Common.{◌<◌, arith}
 use Rattle.std.proofs.lemmas.Bool.{lt-ltb, le-ltb}
 use Rattle.std.proofs.lemmas.List.Elements.{All-from_get_or}
-use Rattle.cd_file.specs.ReadFile.{item_front}
 use Rattle.cd_file.proofs.ItemsScanned.{whole_stands}
 use Rattle.cd_file.proofs.PartsRead.{block_refused, block_read, block_paramless}
 use Rattle.cd_file.proofs.fronts.parts.block_front.Goals as goal

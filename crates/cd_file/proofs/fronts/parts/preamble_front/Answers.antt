@@ -1,9 +1,6 @@
 -- What is read of the item at the front is read of the preamble.
-use Rattle.std.proofs.Common.{◌≡◌, ◌<◌, Ok, sym, ◌∙◌, arith}
+use Rattle.std.proofs.Common.{◌<◌, sym, ◌∙◌, arith}
 use Rattle.std.proofs.lemmas.List.Elements.{All-from_get_or}
-use Rattle.cd_cbor.specs.Reading.{item_at}
-use Rattle.cd_cbor.specs.declared.fault.Why.TheVariants as why
-use Rattle.cd_file.specs.ReadFile.{item_front}
 use Rattle.cd_file.proofs.ItemsScanned.{whole_stands}
 use Rattle.cd_file.proofs.PartsRead.{preamble_read, preamble_refused}
 use Rattle.cd_file.proofs.fronts.parts.preamble_front.Goals as goal

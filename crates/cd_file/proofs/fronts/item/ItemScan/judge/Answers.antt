@@ -1,5 +1,5 @@
 -- What the scan says is what stands at the front.
-use Rattle.std.proofs.Common.{◌≡◌, ◌<◌, ◌+◌, ◌≤◌, ◌^◌, length, sym, ◌∙◌, arith}
+use Rattle.std.proofs.Common.{◌<◌, ◌≤◌, length, arith}
 use Rattle.std.proofs.lemmas.List.Elements.{All-from_get_or}
 use Rattle.cd_cbor.specs.declared.scan.Judged.TheVariants as judged
 use Rattle.cd_file.proofs.ItemsScanned.{scan_told, whole_judged, whole_within, bad_judged, bad_within, more_judged}
