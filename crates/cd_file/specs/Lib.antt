@@ -17,3 +17,4 @@ pub mod FileReading
 pub mod Readable
 pub mod ReadBack
 pub mod ItemReading
+pub mod Putting
