@@ -7,3 +7,4 @@ mod heads;
 mod kinds;
 mod maps;
 mod putting;
+mod strings;
