@@ -13,3 +13,8 @@ pub mod HeadsOf
 pub mod PreambleSize
 pub mod HeadsSeen
 pub mod Elements
+pub mod Courses
+pub mod LinesRead
+pub mod OpcodeBits
+pub mod ParamsJudged
+pub mod EntriesMet

@@ -18,3 +18,4 @@ pub mod Readable
 pub mod ReadBack
 pub mod ItemReading
 pub mod Putting
+pub mod Meeting

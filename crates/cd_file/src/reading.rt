@@ -6,4 +6,7 @@ mod fault;
 mod heads;
 mod kinds;
 mod maps;
+mod met;
+mod params;
 mod putting;
+mod storage;
