@@ -14,3 +14,8 @@ pub mod PreambleSize
 pub mod HeadsSeen
 pub mod Elements
 pub mod StringsSeen
+pub mod Courses
+pub mod LinesRead
+pub mod OpcodeBits
+pub mod ParamsJudged
+pub mod EntriesMet

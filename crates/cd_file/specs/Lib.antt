@@ -19,3 +19,4 @@ pub mod ReadBack
 pub mod ItemReading
 pub mod Putting
 pub mod StringReading
+pub mod Meeting

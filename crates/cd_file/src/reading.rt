@@ -6,5 +6,8 @@ mod fault;
 mod heads;
 mod kinds;
 mod maps;
+mod met;
+mod params;
 mod putting;
+mod storage;
 mod strings;

@@ -86,6 +86,26 @@ pub fn array_of<K: Kind>(
     elements::<K>(alloc, bytes, depth.saturating_sub(1), left, next, key)
 }
 
+/// The array of at least one value of a kind at an offset, each read under the key of the array, and the offset behind it.
+pub fn filled_array_of<K: Kind>(
+    alloc: Global,
+    bytes: &[u8],
+    depth: usize,
+    at: usize,
+    key: u64,
+) -> Result<(List<K::Value>, usize), ItemFault>
+    requires { depth ≤ most_depth }
+    ensures { ReadsItem (λ values. values) result depth bytes.now at (kinds.filled_array_of K.kind (pos key)) }
+{
+    match array_at(bytes, at) {
+        Some((left, next)) => match ended_at(bytes, left, next) {
+            Some(_end) => Err(shape(key)),
+            None => elements::<K>(alloc, bytes, depth.saturating_sub(1), left, next, key),
+        },
+        None => Err(shape(key)),
+    }
+}
+
 /// Numbers from 0, of 64 bits.
 pub struct Numbers;
 

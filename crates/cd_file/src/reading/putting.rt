@@ -1,17 +1,17 @@
 //! Puts what is read into the fields of a map.
 
-ghost use Rattle.std.specs.Prelude.{◌≡◌, ℕ, ◌≤◌, Ok};
+ghost use Rattle.std.specs.Prelude.{◌≡◌, ℕ, ◌≤◌, Some, Ok};
 ghost use Rattle.cd_cbor.specs.Spells.{most_depth};
 ghost use Rattle.cd_cbor.specs.declared.item.Item.{Item};
 ghost use Rattle.cd_file.specs.ItemReading.{ItemAt};
-ghost use Rattle.cd_file.specs.Putting.{PutsInto, PutsSomeInto};
+ghost use Rattle.cd_file.specs.Putting.{Places};
 
 use super::fault::ItemFault;
 use cd_cbor::item_end;
 
 /// Puts a value that was read into a place, and gives the offset behind it.
 pub fn put<V: Drop>(read: Result<(V, usize), ItemFault>, place: &mut V) -> Result<usize, ItemFault>
-    ensures { PutsInto place.new read result }
+    ensures { Places (λ value. place.new ≡ value) read result }
 {
     match read {
         Ok((value, next)) => {
@@ -27,7 +27,7 @@ pub fn put_some<V: Drop>(
     read: Result<(V, usize), ItemFault>,
     place: &mut Option<V>,
 ) -> Result<usize, ItemFault>
-    ensures { PutsSomeInto place.new read result }
+    ensures { Places (λ value. place.new ≡ Some value) read result }
 {
     match read {
         Ok((value, next)) => {
@@ -44,4 +44,14 @@ pub fn passed_over(bytes: &[u8], depth: usize, at: usize) -> Result<usize, ItemF
     ensures { (item : Item) (end : ℕ) → ItemAt depth bytes.now at item end → result ≡ Ok end }
 {
     Ok(item_end(depth, bytes, at))
+}
+
+/// Gives the offset behind a value that was read and is not kept.
+pub fn leave_out<V: Drop>(read: Result<(V, usize), ItemFault>) -> Result<usize, ItemFault>
+    ensures { Places (λ value. Unit {0}) read result }
+{
+    match read {
+        Ok((_value, next)) => Ok(next),
+        Err(fault) => Err(fault),
+    }
 }
