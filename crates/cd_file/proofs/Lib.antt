@@ -19,3 +19,4 @@ pub mod LinesRead
 pub mod OpcodeBits
 pub mod ParamsJudged
 pub mod EntriesMet
+pub mod TimesSeen

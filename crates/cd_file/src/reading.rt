@@ -11,3 +11,4 @@ mod params;
 mod putting;
 mod storage;
 mod strings;
+mod time;
