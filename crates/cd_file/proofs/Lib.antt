@@ -20,3 +20,4 @@ pub mod OpcodeBits
 pub mod ParamsJudged
 pub mod EntriesMet
 pub mod TimesSeen
+pub mod FieldsPut
