@@ -10,3 +10,6 @@ mod met;
 mod params;
 mod putting;
 mod storage;
+
+pub use fault::ItemFault;
+pub use params::params_of;
