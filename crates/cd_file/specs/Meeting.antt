@@ -26,7 +26,8 @@ is_kept met key = kept_at (low_place key) met.low (contains int_eq met.others ke
 unfoldable pub Keeps : Met → List ℤ → Type 0
 Keeps met keys = (key : ℤ) → is_kept met key ≡ is_met keys key
 
--- what a call answers that reads an entry which ends there, where this is known so far
+-- What a call answers that reads an entry which ends there: these are the fields then, and the keys that are kept are those
+-- that were met; or why it is refused, or memory ran out.
 abbrev pub Meets : {F : Type 0} → Met → F → Result ℕ ItemFault → Refusing (Course F) → ℕ → Type 0
 Meets met fields (Ok next) reading end =
     ((keys : List ℤ) × (reading ≡ Ok (record { met = keys; fields = fields })) × Keeps met keys) × (next ≡ end)

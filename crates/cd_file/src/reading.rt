@@ -21,3 +21,5 @@ mod strings;
 mod time;
 
 pub use blocks::block_of;
+pub use fault::ItemFault;
+pub use params::params_of;

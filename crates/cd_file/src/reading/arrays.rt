@@ -86,7 +86,8 @@ pub fn array_of<K: Kind>(
     elements::<K>(alloc, bytes, depth.saturating_sub(1), left, next, key)
 }
 
-/// The array of at least one value of a kind at an offset, each read under the key of the array, and the offset behind it.
+/// The array of values of a kind at an offset, at least one, each read under the key of the array, and the offset
+/// behind it.
 pub fn filled_array_of<K: Kind>(
     alloc: Global,
     bytes: &[u8],

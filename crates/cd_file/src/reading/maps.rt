@@ -36,8 +36,8 @@ pub trait Table {
     fn required_keys() -> &'static [u64]
         ensures { result.now ≡ putting.required_keys table };
 
-    /// Reads the value of a key into the fields, or passes it over if the key has no line, and gives the offset behind it.
-    /// What the fields are after a fault is not said.
+    /// Reads the value of a key into the fields, or passes it over if the key has no line, and gives the offset behind
+    /// it. What the fields are after a fault is not said.
     fn read_value(
         alloc: Global,
         bytes: &[u8],
@@ -101,7 +101,8 @@ fn read_value<T: Table>(
     fields: &mut T::Fields,
 ) -> Result<usize, ItemFault>
     requires { depth ≤ most_depth }
-    ensures { PutsItem fields.new result depth bytes.now at (λ item. maps.value_read T.table (key_by key) item fields.old) }
+    ensures { PutsItem fields.new result depth bytes.now at
+        (λ item. maps.value_read T.table (key_by key) item fields.old) }
 {
     match key {
         Integer::Unsigned(key) => T::read_value(alloc, bytes, depth, at, key, fields),
@@ -217,7 +218,7 @@ pub fn read_entries<T: Table>(
     }
 }
 
-/// The fields of the map at an offset, which is no part of another, and the offset behind it. What is no map has this fault.
+/// The fields of the map at an offset, which stands under no key, and the offset behind it. What is no map is refused so.
 pub fn outer_map<T: WholeMap>(
     alloc: Global,
     bytes: &[u8],

@@ -18,7 +18,7 @@ use cd_block::{Params, keys};
 use cd_name::List;
 use std::alloc::Global;
 
-// A second has at most so many ticks.
+// The most ticks of a second.
 const MOST_TICKS: u64 = 1_000_000_000;
 
 /// Collection parameters (RFC 8618 7.3.1.1.2).
@@ -184,8 +184,8 @@ fn judged(preamble: Preamble) -> Result<List<Params>, FileWhy>
     }
 }
 
-/// The block parameters of the preamble at an offset, in which so many arrays, maps and tags may be open, and the offset
-/// behind it (RFC 8618 7.3.1).
+/// The block parameters of the preamble at an offset, in which so many arrays, maps and tags may be open, 16 at most,
+/// and the offset behind it (RFC 8618 7.3.1).
 pub fn params_of(
     alloc: Global,
     bytes: &[u8],

@@ -104,7 +104,7 @@ impl WholeMap for HintsMap {
     }
 }
 
-/// Opcodes.
+// Opcodes.
 struct Opcodes;
 
 impl Kind for Opcodes {
@@ -132,7 +132,7 @@ impl Kind for Opcodes {
     }
 }
 
-/// Types of records.
+// Types of records.
 struct RrTypes;
 
 impl Kind for RrTypes {
