@@ -18,3 +18,6 @@ pub mod Readable
 pub mod ReadBack
 pub mod ItemReading
 pub mod Fronts
+pub mod Putting
+pub mod StringReading
+pub mod Meeting

@@ -7,7 +7,6 @@ mod file_end;
 mod heads;
 mod item;
 mod parts;
-mod stubs;
 mod title;
 
 pub use ending::{Ending, Unread};
