@@ -24,16 +24,16 @@ front_of_more front value (Ok values) = ap Ok (sym (append_assoc front (value �
 front_of_more front value (Err reason) = refl
 
 -- where a break or the number ends items at an offset past the bytes, the end is there
-past_break : (bytes : List ℕ) (at : ℕ) → length bytes ≤ at → ◌≡◌ (begins_with_break (drop at bytes)) (begins_with_break [])
+pub past_break : (bytes : List ℕ) (at : ℕ) → length bytes ≤ at → ◌≡◌ (begins_with_break (drop at bytes)) (begins_with_break [])
 past_break [] zero past = refl
 past_break [] (suc at) past = refl
 past_break (b ∷ bytes) zero past = absurd (omega arith)
 past_break (b ∷ bytes) (suc at) past = past_break bytes at (omega arith)
 
-not_some : {A : Type 0} (x : A) → ◌≡◌ {A = Option A} None (Some x) → ⊥
+pub not_some : {A : Type 0} (x : A) → ◌≡◌ {A = Option A} None (Some x) → ⊥
 not_some x h = cc
 
-some_same : {A : Type 0} (x y : A) → ◌≡◌ {A = Option A} (Some x) (Some y) → x ≡ y
+pub some_same : {A : Type 0} (x y : A) → ◌≡◌ {A = Option A} (Some x) (Some y) → x ≡ y
 some_same x y h = cc
 
 module _ {A : Type 0} (kind : Kind A) (key : ℤ) (depth : ℕ) (bytes : List ℕ) where

@@ -13,3 +13,14 @@ pub mod HeadsOf
 pub mod PreambleSize
 pub mod HeadsSeen
 pub mod Elements
+pub mod FaultsWithin
+pub mod ItemsScanned
+pub mod PartsRead
+pub mod StringsSeen
+pub mod Courses
+pub mod LinesRead
+pub mod OpcodeBits
+pub mod ParamsJudged
+pub mod EntriesMet
+pub mod TimesSeen
+pub mod FieldsPut

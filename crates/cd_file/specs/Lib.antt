@@ -17,3 +17,7 @@ pub mod FileReading
 pub mod Readable
 pub mod ReadBack
 pub mod ItemReading
+pub mod Fronts
+pub mod Putting
+pub mod StringReading
+pub mod Meeting

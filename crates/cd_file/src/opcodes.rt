@@ -13,7 +13,8 @@ use std::alloc::AllocError;
 // The opcodes are 0 to 15 (RFC 1035 4.1.1).
 const OPCODES: u16 = 16;
 
-fn is_listed(opcodes: u16, opcode: u16) -> bool
+/// Whether the bit of an opcode is set.
+pub fn is_listed(opcodes: u16, opcode: u16) -> bool
     requires { opcode < 16 }
     ensures { result ≡ has_opcode opcodes opcode }
 {

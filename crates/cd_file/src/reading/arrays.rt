@@ -1,6 +1,7 @@
 //! Reads arrays.
 
 ghost use Rattle.std.specs.Prelude.{◌≡◌, ℕ, ◌+◌, ◌≤◌, length, pos, List};
+ghost use Rattle.cd_cbor.specs.Spells.{most_depth};
 ghost use Rattle.cd_cbor.specs.declared.item.Item.{Item};
 ghost use Rattle.cd_file.specs.Kinds as kinds;
 ghost use Rattle.cd_file.specs.Refusing.{Refusing};
@@ -27,6 +28,7 @@ pub trait Kind {
         at: usize,
         key: u64,
     ) -> Result<(Self::Value, usize), ItemFault>
+        requires { depth ≤ most_depth }
         ensures { ReadsItem (λ v. v) result depth bytes.now at (kind (pos key)) };
 }
 
@@ -39,6 +41,7 @@ fn elements<K: Kind>(
     at: usize,
     key: u64,
 ) -> Result<(List<K::Value>, usize), ItemFault>
+    requires { depth ≤ most_depth }
     ensures { (items : List Item) (end : ℕ) → ItemsAt depth bytes.now left at items end
         → Reads (λ values. values) result (kinds.each K.kind (pos key) items) end }
 {
@@ -73,6 +76,7 @@ pub fn array_of<K: Kind>(
     at: usize,
     key: u64,
 ) -> Result<(List<K::Value>, usize), ItemFault>
+    requires { depth ≤ most_depth }
     ensures { ReadsItem (λ values. values) result depth bytes.now at (kinds.array_of K.kind (pos key)) }
 {
     let (left, next) = match array_at(bytes, at) {
@@ -80,6 +84,27 @@ pub fn array_of<K: Kind>(
         None => return Err(shape(key)),
     };
     elements::<K>(alloc, bytes, depth.saturating_sub(1), left, next, key)
+}
+
+/// The array of values of a kind at an offset, at least one, each read under the key of the array, and the offset
+/// behind it.
+pub fn filled_array_of<K: Kind>(
+    alloc: Global,
+    bytes: &[u8],
+    depth: usize,
+    at: usize,
+    key: u64,
+) -> Result<(List<K::Value>, usize), ItemFault>
+    requires { depth ≤ most_depth }
+    ensures { ReadsItem (λ values. values) result depth bytes.now at (kinds.filled_array_of K.kind (pos key)) }
+{
+    match array_at(bytes, at) {
+        Some((left, next)) => match ended_at(bytes, left, next) {
+            Some(_end) => Err(shape(key)),
+            None => elements::<K>(alloc, bytes, depth.saturating_sub(1), left, next, key),
+        },
+        None => Err(shape(key)),
+    }
 }
 
 /// Numbers from 0, of 64 bits.

@@ -10,6 +10,12 @@ use super::fault::ItemFault;
 use super::heads::{number_at, signed_of, unsigned_at};
 use crate::refusal::FileWhy;
 
+/// How many numbers of 8 bits there are.
+pub const BYTES: u64 = 0x100;
+
+/// How many numbers of 16 bits there are.
+pub const WORDS: u64 = 0x1_0000;
+
 // The refusal of a value of another kind or beyond its range.
 pub fn shape(key: u64) -> ItemFault
     ensures { result ≡ fault.Refused (why.Shape (pos key)) }

@@ -1,0 +1,38 @@
+-- Each key is read by its line.
+use Rattle.std.proofs.Common.{◌≡◌, None, false, refl, rules, tests}
+use Rattle.cd_file.specs.Kinds.{unsigned, unsigned_if_below}
+use Rattle.cd_file.specs.MapReading.{line_of}
+use Rattle.cd_file.specs.ReadBlock.{malformed_table}
+use Rattle.cd_file.proofs.LinesRead.{no_line}
+use Rattle.cd_file.proofs.FieldsPut.{puts, puts_some}
+use Rattle.cd_file.proofs.reading.malformed.MalformedMessagesTable.read_value.Goals as goal
+
+pub returns-in-0 : goal.returns-in-0
+unfolding line_of
+returns-in-0 c =
+    puts_some malformed_table c.args.key c.args.depth c.args.at c.args.bytes.now c.args.message.now c.put_some.result unsigned (λ n m. record m { time_offset = n }) false (rw c.in-0.is refl)
+    c.unsigned.result c.put_some.new.place (c.unsigned.ensures c.args.depth) c.put_some.ensures
+
+pub returns-in-1 : goal.returns-in-1
+unfolding line_of
+returns-in-1 c =
+    puts_some malformed_table c.args.key c.args.depth c.args.at c.args.bytes.now c.args.message.now c.put_some-in-1.result unsigned (λ n m. record m { client_address = n }) false (rw c.in-1.is refl)
+    c.unsigned-in-1.result c.put_some-in-1.new.place (c.unsigned-in-1.ensures c.args.depth) c.put_some-in-1.ensures
+
+pub returns-in-2 : goal.returns-in-2
+unfolding line_of
+returns-in-2 c =
+    puts malformed_table c.args.key c.args.depth c.args.at c.args.bytes.now c.args.message.now c.put.result (unsigned_if_below 0x1_0000) (λ n m. record m { client_port = n }) false (rw c.in-2.is refl)
+    c.word_if_below.result c.put.new.place (c.word_if_below.ensures c.args.depth) c.put.ensures
+
+pub returns-in-3 : goal.returns-in-3
+unfolding line_of
+returns-in-3 c =
+    puts_some malformed_table c.args.key c.args.depth c.args.at c.args.bytes.now c.args.message.now c.put_some-in-3.result unsigned (λ n m. record m { message_data = n }) false (rw c.in-3.is refl)
+    c.unsigned-in-3.result c.put_some-in-3.new.place (c.unsigned-in-3.ensures c.args.depth) c.put_some-in-3.ensures
+
+pub returns-in_default : goal.returns-in_default
+unfolding line_of
+returns-in_default c =
+    let none : line_of malformed_table c.args.key ≡ None = search (tests, rules) in
+    no_line malformed_table c.args.key c.args.message.now c.args.depth c.args.bytes.now c.args.at c.passed_over.result none c.passed_over.ensures
