@@ -1,5 +1,5 @@
 -- The entries of a map that are read one after another, as a loop reads them.
-use Rattle.std.proofs.Common.{◌≡◌, ℕ, zero, suc, ◌+◌, ◌<◌, ◌≤◌, List, [], ◌∷◌, length, drop, Option, Some, None, Result, Ok, Err, Bool, true, false, not, ◌&&◌, cond, find, if◌then◌else◌, refl, ap, sym, subst, ◌∙◌, arith}
+use Rattle.std.proofs.Common.{◌≡◌, ℕ, zero, suc, ◌+◌, ◌<◌, ◌≤◌, List, [], ◌∷◌, length, Option, Some, None, Result, Ok, Err, Bool, true, false, not, ◌&&◌, find, if◌then◌else◌, refl, ap, sym, subst, ◌∙◌, arith}
 use Rattle.std.specs.Prelude.{ℤ, pos, All}
 use Rattle.cd_cbor.specs.declared.item.Item.{Item}
 use Rattle.cd_cbor.specs.declared.item.Item.TheViews.{out-Item}
@@ -15,7 +15,6 @@ use Rattle.cd_file.specs.MapReading.{Line, Course, is_met, entry_by, entries_rea
 use Rattle.cd_file.specs.Meeting.{is_kept, Keeps, Meets}
 use Rattle.cd_file.specs.Putting.{required_keys}
 use Rattle.cd_file.specs.ItemReading.{ItemAt, PairsAt, Puts, ended_at}
-use Rattle.cd_file.specs.ReadFile.{begins_with_break}
 use Rattle.cd_file.proofs.HeadsOf.{more_left}
 use Rattle.cd_file.proofs.Elements.{past_break, not_some, some_same}
 

@@ -1,16 +1,14 @@
 -- An entry whose key was met or not, and one that is passed over.
-use Rattle.std.proofs.Common.{◌≡◌, ℕ, zero, suc, List, [], ◌∷◌, get_or, Option, Some, None, Result, Ok, Err, Bool, true, false, not, ◌||◌, option_map, replicate, refl, ap, sym, subst, ◌∙◌}
+use Rattle.std.proofs.Common.{◌≡◌, ℕ, zero, suc, List, ◌∷◌, get_or, Option, Some, None, Result, Ok, Err, Bool, true, false, not, ◌||◌, option_map, replicate, refl, ap, sym, ◌∙◌}
 use Rattle.std.specs.Prelude.{ℤ}
 use Rattle.cd_cbor.specs.declared.item.Item.{Item}
-use Rattle.cd_cbor.specs.declared.item.Item.TheViews.{out-Item}
 use Rattle.cd_cbor.specs.declared.item.Item.TheOpen.{Item-F}
 use Rattle.cd_file.specs.declared.refusal.FileWhy.TheVariants as refusal
 use Rattle.cd_file.specs.declared.reading.fault.ItemFault.{ItemFault}
 use Rattle.cd_file.specs.declared.reading.fault.ItemFault.TheVariants as fault
 use Rattle.cd_file.specs.declared.reading.met.Met.{Met}
-use Rattle.cd_file.specs.Refusing.{Refusing, ◌>>=◌}
 use Rattle.cd_file.specs.Kinds.{integer_in}
-use Rattle.cd_file.specs.MapReading.{Line, Course, is_met, same_key, value_read, entry_by}
+use Rattle.cd_file.specs.MapReading.{Line, is_met, same_key, value_read, entry_by}
 use Rattle.cd_file.specs.Meeting.{is_kept, kept_at, Keeps, Meets}
 use Rattle.cd_file.specs.ItemReading.{Puts, number_in, key_by}
 

@@ -1,14 +1,13 @@
 -- How the value of a key is read by its line.
-use Rattle.std.proofs.Common.{◌≡◌, ℕ, ◌≤◌, nat_eq, List, [], ◌∷◌, Option, Some, None, Result, Ok, Err, true, false, refl, ap, sym, ◌∙◌, arith}
+use Rattle.std.proofs.Common.{◌≡◌, ℕ, List, [], ◌∷◌, Option, Some, None, Result, Ok, Err, refl, ap, sym, ◌∙◌}
 use Rattle.std.specs.Prelude.{pos}
 use Rattle.std.proofs.lemmas.Bool.{ne_eqb}
 use Rattle.cd_cbor.specs.declared.item.Item.{Item}
 use Rattle.cd_file.specs.declared.reading.fault.ItemFault.{ItemFault}
 use Rattle.cd_file.specs.declared.reading.fault.ItemFault.TheVariants as fault
-use Rattle.cd_file.specs.Refusing.{Refusing, ◌>>=◌}
 use Rattle.cd_file.specs.Kinds.{Kind, filled}
 use Rattle.cd_file.specs.MapReading.{Line, line_of, read_by, read_and_put}
-use Rattle.cd_file.specs.ItemReading.{ItemAt, ItemsAt, ended_at, ReadsItem, Puts, PutsItem}
+use Rattle.cd_file.specs.ItemReading.{ItemAt, ItemsAt, ended_at, ReadsItem, PutsItem}
 use Rattle.cd_file.specs.Putting.{Places}
 use Rattle.cd_file.proofs.Elements.{not_some}
 

@@ -1,12 +1,11 @@
 -- The block parameters of a preamble, once it is read.
-use Rattle.std.proofs.Common.{◌≡◌, ℕ, List, [], ◌∷◌, Result, Ok, Err, Bool, true, false, ◌&&◌, refl, ap, sym, ◌∙◌}
+use Rattle.std.proofs.Common.{◌≡◌, ℕ, List, [], ◌∷◌, Ok, Err, ◌&&◌, refl, ap, sym, ◌∙◌}
 use Rattle.std.specs.List.{list_all}
-use Rattle.std.specs.Prelude.{Option, ok_or}
+use Rattle.std.specs.Prelude.{ok_or}
 use Rattle.cd_block.specs.declared.params.Params.{Params}
 use Rattle.cd_cbor.specs.declared.item.Item.{Item}
 use Rattle.cd_cbor.specs.declared.item.Item.TheViews.{out-Item}
 use Rattle.cd_file.specs.declared.preamble.Preamble.{Preamble}
-use Rattle.cd_file.specs.declared.refusal.FileWhy.{FileWhy}
 use Rattle.cd_file.specs.declared.refusal.FileWhy.TheVariants.{NotCdns}
 use Rattle.cd_file.specs.declared.reading.fault.ItemFault.{ItemFault}
 use Rattle.cd_file.specs.declared.reading.fault.ItemFault.TheVariants as fault

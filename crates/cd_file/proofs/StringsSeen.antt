@@ -1,5 +1,5 @@
 -- A string of bytes that stands at an offset is read by its head.
-use Rattle.std.proofs.Common.{◌≡◌, ℕ, ◌+◌, ◌<◌, ◌≤◌, List, length, take, drop, Option, Some, None, Result, Ok, Err, refl, ap, sym, subst, ◌∙◌, arith, length-take, length-drop}
+use Rattle.std.proofs.Common.{◌≡◌, ℕ, ◌+◌, ◌<◌, ◌≤◌, List, length, Option, Some, None, Result, Ok, Err, refl, ap, subst, arith, length-take, length-drop}
 use Rattle.std.specs.Prelude.{ℤ, true, false}
 use Rattle.std.proofs.lemmas.Bool.{lt-leb, le-leb, ltb-true}
 use Rattle.cd_cbor.specs.Readings.{piece}

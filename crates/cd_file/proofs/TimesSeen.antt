@@ -1,9 +1,8 @@
 -- A time is read of the two numbers of its array.
-use Rattle.std.proofs.Common.{◌≡◌, ℕ, ◌+◌, ◌<◌, ◌≤◌, List, [], ◌∷◌, length, Some, None, Ok, Err, refl, ap, arith}
+use Rattle.std.proofs.Common.{◌≡◌, ℕ, ◌<◌, ◌≤◌, List, [], ◌∷◌, length, Some, Ok, Err, refl, ap, arith}
 use Rattle.std.specs.Prelude.{ℤ, slice_index_or}
 use Rattle.cd_cbor.specs.declared.item.Item.{Item}
 use Rattle.cd_block.specs.declared.stamp.Stamp.{Stamp}
-use Rattle.cd_file.specs.declared.refusal.FileWhy.TheVariants.{Shape}
 use Rattle.cd_file.specs.declared.reading.fault.ItemFault.{ItemFault}
 use Rattle.cd_file.specs.declared.reading.fault.ItemFault.TheVariants as fault
 use Rattle.cd_file.specs.Refusing.{◌>>=◌}

@@ -1,5 +1,5 @@
 -- How a string of bytes is read by its head.
-use Rattle.std.specs.Prelude.{◌≡◌, ℕ, ◌+◌, ◌≤◌, nat_lt, Bool, true, false, ℤ, List, length, Option, Some, None, Result, Ok, Err}
+use Rattle.std.specs.Prelude.{◌≡◌, ℕ, ◌+◌, ◌≤◌, nat_lt, Bool, false, ℤ, List, length, Option, Some, None, Result, Ok, Err}
 use Rattle.cd_cbor.specs.Readings.{piece}
 use Rattle.cd_cbor.specs.Reading.{chunks_at}
 use Rattle.cd_cbor.specs.declared.major_type.MajorType.{MajorType}

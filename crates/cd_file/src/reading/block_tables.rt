@@ -1,7 +1,9 @@
 //! Reads the tables of a block (RFC 8618 7.3.2.3).
 
-ghost use Rattle.std.specs.Prelude.{pos};
+ghost use Rattle.std.specs.Prelude.{◌≤◌, pos};
+ghost use Rattle.cd_cbor.specs.Spells.{most_depth};
 ghost use Rattle.cd_file.specs.Kinds as kinds;
+ghost use Rattle.cd_file.specs.ItemReading.{PutsItem};
 ghost use Rattle.cd_file.specs.ReadTables as tables;
 
 use super::arrays::{Kind, Lists, array_of};
@@ -13,7 +15,23 @@ use super::records::{Classtypes, Questions, Records};
 use super::signatures::Signatures;
 use super::strings::{Addresses, ByteStrings};
 use cd_block::{Block, keys};
+use cd_name::List;
 use std::alloc::Global;
+
+// Reads the array at an offset into a table, and gives the offset behind it.
+fn read_table<K: Kind>(
+    alloc: Global,
+    bytes: &[u8],
+    depth: usize,
+    at: usize,
+    key: u64,
+    table: &mut List<K::Value>,
+) -> Result<usize, ItemFault>
+    requires { depth ≤ most_depth }
+    ensures { PutsItem table.new result depth bytes.now at (kinds.array_of K.kind (pos key)) }
+{
+    put(array_of::<K>(alloc, bytes, depth, at, key), table)
+}
 
 /// The tables of a block, which are read into it.
 pub struct BlockTables;
@@ -37,55 +55,35 @@ impl Table for BlockTables {
     ) -> Result<usize, ItemFault> {
         match key {
             keys::TABLES_IP_ADDRESS => {
-                put(
-                    array_of::<Addresses>(alloc, bytes, depth, at, key),
-                    &mut block.ip_address,
-                )
+                read_table::<Addresses>(alloc, bytes, depth, at, key, &mut block.ip_address)
             }
             keys::TABLES_CLASSTYPE => {
-                put(
-                    array_of::<Maps<Classtypes>>(alloc, bytes, depth, at, key),
-                    &mut block.classtype,
-                )
+                read_table::<Maps<Classtypes>>(alloc, bytes, depth, at, key, &mut block.classtype)
             }
             keys::TABLES_NAME_RDATA => {
-                put(
-                    array_of::<ByteStrings>(alloc, bytes, depth, at, key),
-                    &mut block.name_rdata,
-                )
+                read_table::<ByteStrings>(alloc, bytes, depth, at, key, &mut block.name_rdata)
             }
             keys::TABLES_QR_SIG => {
-                put(
-                    array_of::<Maps<Signatures>>(alloc, bytes, depth, at, key),
-                    &mut block.qr_sig,
-                )
+                read_table::<Maps<Signatures>>(alloc, bytes, depth, at, key, &mut block.qr_sig)
             }
             keys::TABLES_QLIST => {
-                put(
-                    array_of::<Lists>(alloc, bytes, depth, at, key),
-                    &mut block.qlist,
-                )
+                read_table::<Lists>(alloc, bytes, depth, at, key, &mut block.qlist)
             }
             keys::TABLES_QRR => {
-                put(
-                    array_of::<Maps<Questions>>(alloc, bytes, depth, at, key),
-                    &mut block.qrr,
-                )
+                read_table::<Maps<Questions>>(alloc, bytes, depth, at, key, &mut block.qrr)
             }
             keys::TABLES_RRLIST => {
-                put(
-                    array_of::<Lists>(alloc, bytes, depth, at, key),
-                    &mut block.rrlist,
-                )
+                read_table::<Lists>(alloc, bytes, depth, at, key, &mut block.rrlist)
             }
             keys::TABLES_RR => {
-                put(
-                    array_of::<Maps<Records>>(alloc, bytes, depth, at, key),
-                    &mut block.rr,
-                )
+                read_table::<Maps<Records>>(alloc, bytes, depth, at, key, &mut block.rr)
             }
-            keys::TABLES_MALFORMED_MESSAGE_DATA => put(
-                array_of::<Maps<MalformedData>>(alloc, bytes, depth, at, key),
+            keys::TABLES_MALFORMED_MESSAGE_DATA => read_table::<Maps<MalformedData>>(
+                alloc,
+                bytes,
+                depth,
+                at,
+                key,
                 &mut block.malformed_message_data,
             ),
             _ => passed_over(bytes, depth, at),

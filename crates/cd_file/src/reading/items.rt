@@ -3,7 +3,7 @@
 ghost use Rattle.cd_file.specs.ReadBlock as blocks;
 
 use super::fault::ItemFault;
-use super::kinds::{BYTES, WORDS, byte_if_below, signed, unsigned, word_if_below};
+use super::kinds::{byte_or_none, signed, unsigned, word_or_none};
 use super::maps::{Table, WholeMap, map_of};
 use super::putting::{passed_over, put, put_some};
 use cd_block::{BlockItem, BlockLists, keys};
@@ -78,17 +78,14 @@ impl Table for Items {
                 unsigned(bytes, at, key),
                 &mut item.client_address,
             ),
-            keys::ITEM_CLIENT_PORT => put(
-                word_if_below(bytes, at, key, WORDS),
-                &mut item.client_port,
-            ),
+            keys::ITEM_CLIENT_PORT => put(word_or_none(bytes, at, key), &mut item.client_port),
             keys::ITEM_TRANSACTION_ID => put(
-                word_if_below(bytes, at, key, WORDS),
+                word_or_none(bytes, at, key),
                 &mut item.transaction_id,
             ),
             keys::ITEM_SIGNATURE => put_some(unsigned(bytes, at, key), &mut item.signature),
             keys::ITEM_CLIENT_HOPLIMIT => put(
-                byte_if_below(bytes, at, key, BYTES),
+                byte_or_none(bytes, at, key),
                 &mut item.client_hoplimit,
             ),
             keys::ITEM_RESPONSE_DELAY => put_some(signed(bytes, at, key), &mut item.response_delay),

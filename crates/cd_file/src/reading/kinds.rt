@@ -10,11 +10,11 @@ use super::fault::ItemFault;
 use super::heads::{number_at, signed_of, unsigned_at};
 use crate::refusal::FileWhy;
 
-/// How many numbers of 8 bits there are.
-pub const BYTES: u64 = 0x100;
+// How many numbers of 8 bits there are.
+const BYTES: u64 = 0x100;
 
-/// How many numbers of 16 bits there are.
-pub const WORDS: u64 = 0x1_0000;
+// How many numbers of 16 bits there are.
+const WORDS: u64 = 0x1_0000;
 
 // The refusal of a value of another kind or beyond its range.
 pub fn shape(key: u64) -> ItemFault
@@ -108,6 +108,21 @@ pub fn byte_if_below(
     } else {
         Ok((None, next))
     }
+}
+
+/// A number from 0, which is absent unless it has 16 bits at most.
+pub fn word_or_none(bytes: &[u8], at: usize, key: u64) -> Result<(Option<u16>, usize), ItemFault>
+    ensures { (depth : ℕ)
+        → ReadsItem (λ n. n) result depth bytes.now at (kinds.unsigned_if_below 0x1_0000 (pos key)) }
+{
+    word_if_below(bytes, at, key, WORDS)
+}
+
+/// A number from 0, which is absent unless it has 8 bits at most.
+pub fn byte_or_none(bytes: &[u8], at: usize, key: u64) -> Result<(Option<u8>, usize), ItemFault>
+    ensures { (depth : ℕ) → ReadsItem (λ n. n) result depth bytes.now at (kinds.unsigned_if_below 0x100 (pos key)) }
+{
+    byte_if_below(bytes, at, key, BYTES)
 }
 
 /// A signed number, of 64 bits.

@@ -4,7 +4,7 @@ ghost use Rattle.cd_file.specs.ReadBlock as blocks;
 ghost use Rattle.cd_file.specs.ReadTables as tables;
 
 use super::fault::ItemFault;
-use super::kinds::{BYTES, WORDS, byte_if_below, unsigned, word_if_below};
+use super::kinds::{byte_or_none, unsigned, word_or_none};
 use super::maps::{Table, WholeMap};
 use super::putting::{passed_over, put, put_some};
 use super::strings::byte_string;
@@ -35,18 +35,14 @@ impl Table for MalformedData {
             keys::MALFORMED_DATA_SERVER_ADDRESS => {
                 put_some(unsigned(bytes, at, key), &mut message.server_address)
             }
-            keys::MALFORMED_DATA_SERVER_PORT => {
-                put(
-                    word_if_below(bytes, at, key, WORDS),
-                    &mut message.server_port,
-                )
-            }
-            keys::MALFORMED_DATA_TRANSPORT_FLAGS => {
-                put(
-                    byte_if_below(bytes, at, key, BYTES),
-                    &mut message.transport_flags,
-                )
-            }
+            keys::MALFORMED_DATA_SERVER_PORT => put(
+                word_or_none(bytes, at, key),
+                &mut message.server_port,
+            ),
+            keys::MALFORMED_DATA_TRANSPORT_FLAGS => put(
+                byte_or_none(bytes, at, key),
+                &mut message.transport_flags,
+            ),
             keys::MALFORMED_DATA_PAYLOAD => {
                 put_some(byte_string(alloc, bytes, at, key), &mut message.payload)
             }
@@ -96,12 +92,10 @@ impl Table for MalformedMessages {
             keys::MALFORMED_CLIENT_ADDRESS => {
                 put_some(unsigned(bytes, at, key), &mut message.client_address)
             }
-            keys::MALFORMED_CLIENT_PORT => {
-                put(
-                    word_if_below(bytes, at, key, WORDS),
-                    &mut message.client_port,
-                )
-            }
+            keys::MALFORMED_CLIENT_PORT => put(
+                word_or_none(bytes, at, key),
+                &mut message.client_port,
+            ),
             keys::MALFORMED_MESSAGE_DATA => put_some(
                 unsigned(bytes, at, key),
                 &mut message.message_data,

@@ -218,7 +218,8 @@ pub fn read_entries<T: Table>(
     }
 }
 
-/// The fields of the map at an offset, which stands under no key, and the offset behind it. What is no map is refused so.
+/// The fields of the map at an offset, which stands under no key, and the offset behind it. What is no map is refused
+/// so.
 pub fn outer_map<T: WholeMap>(
     alloc: Global,
     bytes: &[u8],

@@ -3,7 +3,7 @@
 ghost use Rattle.cd_file.specs.ReadTables as tables;
 
 use super::fault::ItemFault;
-use super::kinds::{BYTES, WORDS, byte_if_below, unsigned, word_if_below};
+use super::kinds::{byte_if_below, byte_or_none, unsigned, word_if_below, word_or_none};
 use super::maps::{Table, WholeMap};
 use super::putting::{passed_over, put, put_some};
 use cd_block::{BlockSig, keys};
@@ -37,31 +37,25 @@ impl Table for Signatures {
     ) -> Result<usize, ItemFault> {
         match key {
             keys::SIG_SERVER_ADDRESS => put_some(unsigned(bytes, at, key), &mut sig.server_address),
-            keys::SIG_SERVER_PORT => put(
-                word_if_below(bytes, at, key, WORDS),
-                &mut sig.server_port,
-            ),
+            keys::SIG_SERVER_PORT => put(word_or_none(bytes, at, key), &mut sig.server_port),
             keys::SIG_TRANSPORT_FLAGS => put(
-                byte_if_below(bytes, at, key, BYTES),
+                byte_or_none(bytes, at, key),
                 &mut sig.transport_flags,
             ),
-            keys::SIG_SIG_FLAGS => put(byte_if_below(bytes, at, key, BYTES), &mut sig.sig_flags),
+            keys::SIG_SIG_FLAGS => put(byte_or_none(bytes, at, key), &mut sig.sig_flags),
             keys::SIG_OPCODE => put(byte_if_below(bytes, at, key, OPCODES), &mut sig.opcode),
-            keys::SIG_DNS_FLAGS => put(word_if_below(bytes, at, key, WORDS), &mut sig.dns_flags),
+            keys::SIG_DNS_FLAGS => put(word_or_none(bytes, at, key), &mut sig.dns_flags),
             keys::SIG_QUERY_RCODE => put(
                 word_if_below(bytes, at, key, RCODES),
                 &mut sig.query_rcode,
             ),
             keys::SIG_CLASSTYPE => put_some(unsigned(bytes, at, key), &mut sig.classtype),
-            keys::SIG_QDCOUNT => put(word_if_below(bytes, at, key, WORDS), &mut sig.qd),
-            keys::SIG_ANCOUNT => put(word_if_below(bytes, at, key, WORDS), &mut sig.an),
-            keys::SIG_NSCOUNT => put(word_if_below(bytes, at, key, WORDS), &mut sig.ns),
-            keys::SIG_ARCOUNT => put(word_if_below(bytes, at, key, WORDS), &mut sig.ar),
-            keys::SIG_EDNS_VERSION => put(
-                byte_if_below(bytes, at, key, BYTES),
-                &mut sig.edns_version,
-            ),
-            keys::SIG_UDP_SIZE => put(word_if_below(bytes, at, key, WORDS), &mut sig.udp_size),
+            keys::SIG_QDCOUNT => put(word_or_none(bytes, at, key), &mut sig.qd),
+            keys::SIG_ANCOUNT => put(word_or_none(bytes, at, key), &mut sig.an),
+            keys::SIG_NSCOUNT => put(word_or_none(bytes, at, key), &mut sig.ns),
+            keys::SIG_ARCOUNT => put(word_or_none(bytes, at, key), &mut sig.ar),
+            keys::SIG_EDNS_VERSION => put(byte_or_none(bytes, at, key), &mut sig.edns_version),
+            keys::SIG_UDP_SIZE => put(word_or_none(bytes, at, key), &mut sig.udp_size),
             keys::SIG_OPT_RDATA => put_some(unsigned(bytes, at, key), &mut sig.opt_rdata),
             keys::SIG_RESPONSE_RCODE => put(
                 word_if_below(bytes, at, key, RCODES),

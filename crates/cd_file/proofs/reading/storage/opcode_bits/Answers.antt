@@ -1,5 +1,5 @@
 -- Each opcode gives its bit.
-use Rattle.std.proofs.Common.{◌+◌, ◌<◌, ◌≤◌, length, get_or, drop, ap, sym, ◌∙◌, arith}
+use Rattle.std.proofs.Common.{◌+◌, ◌<◌, ◌≤◌, length, drop, ap, sym, ◌∙◌, arith}
 use Rattle.std.proofs.lemmas.List.Elements.{All-get_or}
 use Rattle.cd_file.specs.ReadHead as head
 use Rattle.cd_file.proofs.OpcodeBits.{bits_more, bits_end}

@@ -1,5 +1,5 @@
 -- There is room for a bit that is not set.
-use Rattle.std.proofs.Common.{◌≡◌, ◌*◌, ◌%◌, ◌^◌, ◌<◌, sym, ◌∙◌, arith}
+use Rattle.std.proofs.Common.{◌^◌, ◌<◌, sym, ◌∙◌, arith}
 use Rattle.std.proofs.lemmas.Nat.{pow_below}
 use Rattle.cd_file.proofs.OpcodeBits.{room_for}
 use Rattle.cd_file.proofs.reading.storage.with_opcode.Goals as goal

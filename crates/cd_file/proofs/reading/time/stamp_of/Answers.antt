@@ -1,5 +1,5 @@
 -- The two numbers are those of the time.
-use Rattle.std.proofs.Common.{◌≤◌, ◌<◌, length, arith}
+use Rattle.std.proofs.Common.{arith}
 use Rattle.cd_file.proofs.TimesSeen.{two_numbers}
 use Rattle.cd_file.proofs.reading.time.stamp_of.Goals as goal
 

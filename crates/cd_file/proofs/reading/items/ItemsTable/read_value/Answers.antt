@@ -23,13 +23,13 @@ pub returns-in-2 : goal.returns-in-2
 unfolding line_of
 returns-in-2 c =
     puts item_table c.args.key c.args.depth c.args.at c.args.bytes.now c.args.item.now c.put.result (unsigned_if_below 0x1_0000) (λ n i. record i { client_port = n }) false (rw c.in-2.is refl)
-    c.word_if_below.result c.put.new.place (c.word_if_below.ensures c.args.depth) c.put.ensures
+    c.word_or_none.result c.put.new.place (c.word_or_none.ensures c.args.depth) c.put.ensures
 
 pub returns-in-3 : goal.returns-in-3
 unfolding line_of
 returns-in-3 c =
     puts item_table c.args.key c.args.depth c.args.at c.args.bytes.now c.args.item.now c.put-in-3.result (unsigned_if_below 0x1_0000) (λ n i. record i { transaction_id = n }) false (rw c.in-3.is refl)
-    c.word_if_below-in-3.result c.put-in-3.new.place (c.word_if_below-in-3.ensures c.args.depth) c.put-in-3.ensures
+    c.word_or_none-in-3.result c.put-in-3.new.place (c.word_or_none-in-3.ensures c.args.depth) c.put-in-3.ensures
 
 pub returns-in-4 : goal.returns-in-4
 unfolding line_of
@@ -41,7 +41,7 @@ pub returns-in-5 : goal.returns-in-5
 unfolding line_of
 returns-in-5 c =
     puts item_table c.args.key c.args.depth c.args.at c.args.bytes.now c.args.item.now c.put-in-5.result (unsigned_if_below 0x100) (λ n i. record i { client_hoplimit = n }) false (rw c.in-5.is refl)
-    c.byte_if_below.result c.put-in-5.new.place (c.byte_if_below.ensures c.args.depth) c.put-in-5.ensures
+    c.byte_or_none.result c.put-in-5.new.place (c.byte_or_none.ensures c.args.depth) c.put-in-5.ensures
 
 pub returns-in-6 : goal.returns-in-6
 unfolding line_of

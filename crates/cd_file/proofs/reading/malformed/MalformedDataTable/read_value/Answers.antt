@@ -17,13 +17,13 @@ pub returns-in-1 : goal.returns-in-1
 unfolding line_of
 returns-in-1 c =
     puts malformed_data_table c.args.key c.args.depth c.args.at c.args.bytes.now c.args.message.now c.put.result (unsigned_if_below 0x1_0000) (λ n d. record d { server_port = n }) false (rw c.in-1.is refl)
-    c.word_if_below.result c.put.new.place (c.word_if_below.ensures c.args.depth) c.put.ensures
+    c.word_or_none.result c.put.new.place (c.word_or_none.ensures c.args.depth) c.put.ensures
 
 pub returns-in-2 : goal.returns-in-2
 unfolding line_of
 returns-in-2 c =
     puts malformed_data_table c.args.key c.args.depth c.args.at c.args.bytes.now c.args.message.now c.put-in-2.result (unsigned_if_below 0x100) (λ n d. record d { transport_flags = n }) false (rw c.in-2.is refl)
-    c.byte_if_below.result c.put-in-2.new.place (c.byte_if_below.ensures c.args.depth) c.put-in-2.ensures
+    c.byte_or_none.result c.put-in-2.new.place (c.byte_or_none.ensures c.args.depth) c.put-in-2.ensures
 
 pub returns-in-3 : goal.returns-in-3
 unfolding line_of

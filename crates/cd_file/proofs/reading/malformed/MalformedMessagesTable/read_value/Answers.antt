@@ -23,7 +23,7 @@ pub returns-in-2 : goal.returns-in-2
 unfolding line_of
 returns-in-2 c =
     puts malformed_table c.args.key c.args.depth c.args.at c.args.bytes.now c.args.message.now c.put.result (unsigned_if_below 0x1_0000) (λ n m. record m { client_port = n }) false (rw c.in-2.is refl)
-    c.word_if_below.result c.put.new.place (c.word_if_below.ensures c.args.depth) c.put.ensures
+    c.word_or_none.result c.put.new.place (c.word_or_none.ensures c.args.depth) c.put.ensures
 
 pub returns-in-3 : goal.returns-in-3
 unfolding line_of

@@ -1,8 +1,8 @@
 -- Each key goes by its line.
-use Rattle.std.proofs.Common.{◌≡◌, ◌<◌, ◌%◌, Some, ap, arith}
+use Rattle.std.proofs.Common.{arith}
 use Rattle.cd_file.specs.MapReading.{line_of}
 use Rattle.cd_file.specs.ReadHead as head
-use Rattle.cd_file.proofs.LinesRead.{line_put, no_line, line_of_none, line_of_other}
+use Rattle.cd_file.proofs.LinesRead.{no_line, line_of_none, line_of_other}
 use Rattle.cd_file.proofs.reading.params.ParametersMapTable.read_value.Goals as goal
 
 pub returns-in-0 : goal.returns-in-0

@@ -1,5 +1,5 @@
 -- Each key goes by its line.
-use Rattle.std.proofs.Common.{◌≡◌, ◌<◌, ◌%◌, Some, ap, arith}
+use Rattle.std.proofs.Common.{◌≡◌, ap, arith}
 use Rattle.std.proofs.Common.{refl}
 use Rattle.cd_file.specs.Kinds.{unsigned, filled_array_of}
 use Rattle.cd_file.specs.MapReading.{map_from}

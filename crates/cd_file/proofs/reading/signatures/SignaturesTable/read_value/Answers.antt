@@ -17,37 +17,37 @@ pub returns-in-1 : goal.returns-in-1
 unfolding line_of
 returns-in-1 c =
     puts signature_table c.args.key c.args.depth c.args.at c.args.bytes.now c.args.sig.now c.put.result (unsigned_if_below 0x1_0000) (λ n s. record s { server_port = n }) false (rw c.in-1.is refl)
-    c.word_if_below.result c.put.new.place (c.word_if_below.ensures c.args.depth) c.put.ensures
+    c.word_or_none.result c.put.new.place (c.word_or_none.ensures c.args.depth) c.put.ensures
 
 pub returns-in-2 : goal.returns-in-2
 unfolding line_of
 returns-in-2 c =
     puts signature_table c.args.key c.args.depth c.args.at c.args.bytes.now c.args.sig.now c.put-in-2.result (unsigned_if_below 0x100) (λ n s. record s { transport_flags = n }) false (rw c.in-2.is refl)
-    c.byte_if_below.result c.put-in-2.new.place (c.byte_if_below.ensures c.args.depth) c.put-in-2.ensures
+    c.byte_or_none.result c.put-in-2.new.place (c.byte_or_none.ensures c.args.depth) c.put-in-2.ensures
 
 pub returns-in-4 : goal.returns-in-4
 unfolding line_of
 returns-in-4 c =
     puts signature_table c.args.key c.args.depth c.args.at c.args.bytes.now c.args.sig.now c.put-in-4.result (unsigned_if_below 0x100) (λ n s. record s { sig_flags = n }) false (rw c.in-4.is refl)
-    c.byte_if_below-in-4.result c.put-in-4.new.place (c.byte_if_below-in-4.ensures c.args.depth) c.put-in-4.ensures
+    c.byte_or_none-in-4.result c.put-in-4.new.place (c.byte_or_none-in-4.ensures c.args.depth) c.put-in-4.ensures
 
 pub returns-in-5 : goal.returns-in-5
 unfolding line_of
 returns-in-5 c =
     puts signature_table c.args.key c.args.depth c.args.at c.args.bytes.now c.args.sig.now c.put-in-5.result (unsigned_if_below 16) (λ n s. record s { opcode = n }) false (rw c.in-5.is refl)
-    c.byte_if_below-in-5.result c.put-in-5.new.place (c.byte_if_below-in-5.ensures c.args.depth) c.put-in-5.ensures
+    c.byte_if_below.result c.put-in-5.new.place (c.byte_if_below.ensures c.args.depth) c.put-in-5.ensures
 
 pub returns-in-6 : goal.returns-in-6
 unfolding line_of
 returns-in-6 c =
     puts signature_table c.args.key c.args.depth c.args.at c.args.bytes.now c.args.sig.now c.put-in-6.result (unsigned_if_below 0x1_0000) (λ n s. record s { dns_flags = n }) false (rw c.in-6.is refl)
-    c.word_if_below-in-6.result c.put-in-6.new.place (c.word_if_below-in-6.ensures c.args.depth) c.put-in-6.ensures
+    c.word_or_none-in-6.result c.put-in-6.new.place (c.word_or_none-in-6.ensures c.args.depth) c.put-in-6.ensures
 
 pub returns-in-7 : goal.returns-in-7
 unfolding line_of
 returns-in-7 c =
     puts signature_table c.args.key c.args.depth c.args.at c.args.bytes.now c.args.sig.now c.put-in-7.result (unsigned_if_below 0x1000) (λ n s. record s { query_rcode = n }) false (rw c.in-7.is refl)
-    c.word_if_below-in-7.result c.put-in-7.new.place (c.word_if_below-in-7.ensures c.args.depth) c.put-in-7.ensures
+    c.word_if_below.result c.put-in-7.new.place (c.word_if_below.ensures c.args.depth) c.put-in-7.ensures
 
 pub returns-in-8 : goal.returns-in-8
 unfolding line_of
@@ -59,37 +59,37 @@ pub returns-in-9 : goal.returns-in-9
 unfolding line_of
 returns-in-9 c =
     puts signature_table c.args.key c.args.depth c.args.at c.args.bytes.now c.args.sig.now c.put-in-9.result (unsigned_if_below 0x1_0000) (λ n s. record s { qd = n }) false (rw c.in-9.is refl)
-    c.word_if_below-in-9.result c.put-in-9.new.place (c.word_if_below-in-9.ensures c.args.depth) c.put-in-9.ensures
+    c.word_or_none-in-9.result c.put-in-9.new.place (c.word_or_none-in-9.ensures c.args.depth) c.put-in-9.ensures
 
 pub returns-in-10 : goal.returns-in-10
 unfolding line_of
 returns-in-10 c =
     puts signature_table c.args.key c.args.depth c.args.at c.args.bytes.now c.args.sig.now c.put-in-10.result (unsigned_if_below 0x1_0000) (λ n s. record s { an = n }) false (rw c.in-10.is refl)
-    c.word_if_below-in-10.result c.put-in-10.new.place (c.word_if_below-in-10.ensures c.args.depth) c.put-in-10.ensures
+    c.word_or_none-in-10.result c.put-in-10.new.place (c.word_or_none-in-10.ensures c.args.depth) c.put-in-10.ensures
 
 pub returns-in-11 : goal.returns-in-11
 unfolding line_of
 returns-in-11 c =
     puts signature_table c.args.key c.args.depth c.args.at c.args.bytes.now c.args.sig.now c.put-in-11.result (unsigned_if_below 0x1_0000) (λ n s. record s { ns = n }) false (rw c.in-11.is refl)
-    c.word_if_below-in-11.result c.put-in-11.new.place (c.word_if_below-in-11.ensures c.args.depth) c.put-in-11.ensures
+    c.word_or_none-in-11.result c.put-in-11.new.place (c.word_or_none-in-11.ensures c.args.depth) c.put-in-11.ensures
 
 pub returns-in-12 : goal.returns-in-12
 unfolding line_of
 returns-in-12 c =
     puts signature_table c.args.key c.args.depth c.args.at c.args.bytes.now c.args.sig.now c.put-in-12.result (unsigned_if_below 0x1_0000) (λ n s. record s { ar = n }) false (rw c.in-12.is refl)
-    c.word_if_below-in-12.result c.put-in-12.new.place (c.word_if_below-in-12.ensures c.args.depth) c.put-in-12.ensures
+    c.word_or_none-in-12.result c.put-in-12.new.place (c.word_or_none-in-12.ensures c.args.depth) c.put-in-12.ensures
 
 pub returns-in-13 : goal.returns-in-13
 unfolding line_of
 returns-in-13 c =
     puts signature_table c.args.key c.args.depth c.args.at c.args.bytes.now c.args.sig.now c.put-in-13.result (unsigned_if_below 0x100) (λ n s. record s { edns_version = n }) false (rw c.in-13.is refl)
-    c.byte_if_below-in-13.result c.put-in-13.new.place (c.byte_if_below-in-13.ensures c.args.depth) c.put-in-13.ensures
+    c.byte_or_none-in-13.result c.put-in-13.new.place (c.byte_or_none-in-13.ensures c.args.depth) c.put-in-13.ensures
 
 pub returns-in-14 : goal.returns-in-14
 unfolding line_of
 returns-in-14 c =
     puts signature_table c.args.key c.args.depth c.args.at c.args.bytes.now c.args.sig.now c.put-in-14.result (unsigned_if_below 0x1_0000) (λ n s. record s { udp_size = n }) false (rw c.in-14.is refl)
-    c.word_if_below-in-14.result c.put-in-14.new.place (c.word_if_below-in-14.ensures c.args.depth) c.put-in-14.ensures
+    c.word_or_none-in-14.result c.put-in-14.new.place (c.word_or_none-in-14.ensures c.args.depth) c.put-in-14.ensures
 
 pub returns-in-15 : goal.returns-in-15
 unfolding line_of

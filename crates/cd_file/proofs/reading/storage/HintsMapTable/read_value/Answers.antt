@@ -1,5 +1,5 @@
 -- Each key goes by its line.
-use Rattle.std.proofs.Common.{◌≡◌, ◌<◌, ◌%◌, Some, ap, arith}
+use Rattle.std.proofs.Common.{◌≡◌, ◌%◌, ap, arith}
 use Rattle.cd_file.specs.Kinds.{unsigned}
 use Rattle.cd_file.specs.MapReading.{line_of}
 use Rattle.cd_file.specs.ReadHead as head

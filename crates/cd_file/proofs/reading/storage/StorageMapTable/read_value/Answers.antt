@@ -1,5 +1,5 @@
 -- Each key goes by its line.
-use Rattle.std.proofs.Common.{◌≡◌, ◌<◌, ◌%◌, Some, ap, arith}
+use Rattle.std.proofs.Common.{◌≡◌, ◌<◌, Some, ap, arith}
 use Rattle.std.specs.Prelude.{All, pos, slice_set}
 use Rattle.cd_file.specs.Kinds.{unsigned, unsigned_below, array_of}
 use Rattle.cd_file.specs.MapReading.{map_from}
