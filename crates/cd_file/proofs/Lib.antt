@@ -13,3 +13,8 @@ pub mod HeadsOf
 pub mod PreambleSize
 pub mod HeadsSeen
 pub mod Elements
+pub mod ItemsWithin
+pub mod ItemsGo
+pub mod HeadsGo
+pub mod FrontsGo
+pub mod FileGrows

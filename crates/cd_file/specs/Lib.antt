@@ -14,6 +14,7 @@ pub mod ItemHeads
 pub mod ReadFile
 pub mod KeptFile
 pub mod FileReading
+pub mod FileGrowth
 pub mod Readable
 pub mod ReadBack
 pub mod ItemReading
