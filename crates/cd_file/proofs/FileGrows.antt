@@ -1,12 +1,12 @@
 -- What a file holds stays as its bytes go on, and more may follow; what is refused stays refused.
-use Rattle.std.proofs.Common.{◌≡◌, ℕ, zero, suc, ◌+◌, ◌-◌, ◌≤◌, Bool, true, false, cond, List, [], ◌∷◌, ◌++◌, length, drop, Result, Ok, Err, refl, ap, sym, ◌∙◌, arith}
+use Rattle.std.proofs.Common.{◌≡◌, ℕ, zero, suc, ◌+◌, ◌-◌, ◌≤◌, Bool, true, false, cond, List, [], ◌∷◌, ◌++◌, length, drop, Result, Ok, Err, refl, ap, sym, ◌∙◌}
 use Rattle.std.specs.Prelude.{nat_eq, Option, Some, None}
 use Rattle.std.proofs.lemmas.List.{drop-append-le}
 use Rattle.cd_block.specs.declared.block.Block.{Block}
 use Rattle.cd_block.specs.declared.params.Params.{Params}
 use Rattle.cd_file.specs.declared.refusal.FileWhy.{FileWhy}
 use Rattle.cd_file.specs.declared.refusal.FileWhy.TheVariants.{NotCdns}
-use Rattle.cd_file.specs.ReadFile.{FileEnd, Whole, Open, Refused, FileRead, headless, blockless, after_blocks, Front, onward, outer_front, title_head, is_title, title_front, chunk_front, preamble_front, count_front, block_front, nothing_more, closing, one_less, ends_blocks, blocks_on, array_on, preamble_on, chunks_on, title_by, title_on, read_file}
+use Rattle.cd_file.specs.ReadFile.{FileEnd, Open, Refused, FileRead, headless, blockless, after_blocks, Front, onward, outer_front, title_head, is_title, title_front, chunk_front, preamble_front, count_front, block_front, nothing_more, closing, blocks_on, array_on, preamble_on, chunks_on, title_by, title_on, read_file}
 use Rattle.cd_file.specs.FileGrowth.{Grows, FilesGrow}
 use Rattle.cd_file.proofs.FrontsGo.{Stays, Fills, outer_stays, outer_fills, title_head_stays, title_head_fills, title_stays, title_fills, chunk_stays, preamble_stays, preamble_fills, count_stays, count_fills, block_stays}
 

@@ -1,26 +1,21 @@
 -- What stands at the front of the bytes of a file stays as they go on, unless it is open, and lies within them.
 use Rattle.std.proofs.Common.{◌≡◌, ℕ, ◌+◌, ◌-◌, ◌<◌, ◌≤◌, Bool, true, false, cond, List, [], ◌∷◌, ◌++◌, length, take, Result, Ok, Err, inl, inr, refl, ap, sym, ◌∙◌, arith, length-append, take_all, length-take}
-use Rattle.std.specs.Prelude.{nat_lt, ◌&&◌, Option, Some, None, ok_or}
+use Rattle.std.specs.Prelude.{nat_lt, ◌&&◌, ok_or}
 use Rattle.std.proofs.lemmas.Bool.{cases_lt, lt-ltb, le-ltb}
 use Rattle.std.proofs.lemmas.List.{take-append-le}
 use Rattle.std.proofs.Math.Seq.{take-append-add}
 use Rattle.cd_cbor.specs.Readings.{Reading, refused, byte_at}
 use Rattle.cd_cbor.specs.Reading.{item_at, content_at}
 use Rattle.cd_cbor.specs.declared.item.Item.{Item}
-use Rattle.cd_cbor.specs.declared.fault.Why.{Why}
 use Rattle.cd_cbor.specs.declared.fault.Why.TheVariants as why
 use Rattle.cd_cbor.specs.declared.fault.CborFault.{CborFault}
 use Rattle.cd_cbor.specs.declared.fault.CborFault.TheVariants as fault
 use Rattle.cd_cbor.proofs.Growing.{Goes}
-use Rattle.cd_block.specs.declared.block.Block.{Block}
-use Rattle.cd_block.specs.declared.params.Params.{Params}
-use Rattle.cd_file.specs.declared.refusal.FileWhy.{FileWhy}
 use Rattle.cd_file.specs.declared.refusal.FileWhy.TheVariants.{NotCdns, ParamIndex, TooLarge}
-use Rattle.cd_file.specs.Refusing.{Refusing}
 use Rattle.cd_file.specs.ReadHead.{read_params}
 use Rattle.cd_file.specs.ReadBlock.{read_block}
 use Rattle.cd_file.specs.ItemHeads.{ItemHead, begun_item, chunk_head}
-use Rattle.cd_file.specs.ReadFile.{FileEnd, Whole, Open, Refused, Front, ◌>>=◌, refusing, judged_or, judged, begins_with_break, element_head, most_item, unfinished_item, item_front, outer_of, outer_front, title_of, title_head, is_title, title_front, chunk_front, is_map, preamble_front, count_of, count_front, block_front}
+use Rattle.cd_file.specs.ReadFile.{FileEnd, Open, Refused, Front, ◌>>=◌, refusing, judged_or, judged, begins_with_break, element_head, most_item, item_front, outer_of, outer_front, title_of, title_head, is_title, title_front, chunk_front, is_map, preamble_front, count_of, count_front, block_front}
 use Rattle.cd_file.proofs.ItemsWithin.{Lies, item_lies}
 use Rattle.cd_file.proofs.ItemsGo.{item_goes}
 use Rattle.cd_file.proofs.HeadsGo.{content_goes, content_lies, begun_goes, begun_lies, chunk_head_goes, chunk_head_lies}

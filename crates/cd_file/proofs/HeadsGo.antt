@@ -1,17 +1,16 @@
 -- The heads of a file, and its text, stay as the bytes go on, but for an end, and lie within the bytes.
-use Rattle.std.proofs.Common.{◌≡◌, ℕ, ◌+◌, ◌/◌, ◌%◌, ◌<◌, ◌≤◌, Bool, true, false, cond, List, ◌++◌, length, Result, Ok, Err, inl, inr, refl, ap, arith, length-append}
-use Rattle.std.specs.Prelude.{nat_lt, Option, Some, None}
-use Rattle.std.proofs.lemmas.Bool.{cases_lt, lt-ltb, le-ltb, ltb-false}
+use Rattle.std.proofs.Common.{ℕ, ◌+◌, ◌/◌, ◌%◌, ◌≤◌, Bool, true, List, ◌++◌, length, inl, inr, refl, arith, length-append}
+use Rattle.std.specs.Prelude.{nat_lt}
+use Rattle.std.proofs.lemmas.Bool.{cases_lt, lt-ltb, le-ltb}
 use Rattle.cd_cbor.specs.Heads.{major_type}
 use Rattle.cd_cbor.specs.Spells.{most_string, is_content}
-use Rattle.cd_cbor.specs.Readings.{Reading, ◌>>=◌, refused, ends, piece, byte_at}
+use Rattle.cd_cbor.specs.Readings.{piece, byte_at}
 use Rattle.cd_cbor.specs.Reading.{argument_at, content_at, is_chunk}
 use Rattle.cd_cbor.specs.declared.fault.Why.TheVariants as why
-use Rattle.cd_cbor.specs.declared.fault.CborFault.{CborFault}
 use Rattle.cd_cbor.specs.declared.major_type.MajorType.{MajorType}
 use Rattle.cd_cbor.specs.declared.major_type.MajorType.TheVariants as major
 use Rattle.cd_cbor.proofs.Growing.{Goes, goes_ok, goes_refused, goes_bind, goes_if, byte_goes, argument_goes}
-use Rattle.cd_file.specs.ItemHeads.{ItemHead, is_low_simple, is_too_long, definite_head, indefinite_head, begun_item, chunk_head}
+use Rattle.cd_file.specs.ItemHeads.{is_low_simple, is_too_long, definite_head, indefinite_head, begun_item, chunk_head}
 use Rattle.cd_file.proofs.ItemsGo.{piece_stays}
 use Rattle.cd_file.proofs.ItemsWithin.{Lies, byte_within, lies_ok, lies_err, lies_if, lies_bind, argument_lies}
 

@@ -1,12 +1,12 @@
 -- What is read of an item stays as the bytes go on, but for an end, whatever numbers they are.
-use Rattle.std.proofs.Common.{◌≡◌, ℕ, zero, suc, ◌+◌, ◌-◌, ◌/◌, ◌%◌, ◌<◌, ◌≤◌, Bool, true, false, cond, List, ◌∷◌, ◌++◌, length, take, drop, Result, Ok, Err, inl, inr, refl, ap, ◌∙◌, arith, length-append}
+use Rattle.std.proofs.Common.{◌≡◌, ℕ, zero, suc, ◌+◌, ◌-◌, ◌/◌, ◌%◌, ◌<◌, ◌≤◌, Bool, true, false, List, ◌++◌, length, take, drop, Result, Ok, inl, inr, refl, ap, ◌∙◌, arith, length-append}
 use Rattle.std.specs.Prelude.{nat_lt, nat_eq, ◌&&◌}
 use Rattle.std.proofs.lemmas.Bool.{cases_eq, eq-eqb, ne_eqb}
 use Rattle.std.proofs.lemmas.List.{take-append-le, drop-append-le, length-drop}
 use Rattle.cd_cbor.specs.Heads.{major_type}
 use Rattle.cd_cbor.specs.Spells.{other}
-use Rattle.cd_cbor.specs.Readings.{Reading, ◌>>=◌, refused, ends, piece, byte_at, times, until_break}
-use Rattle.cd_cbor.specs.Reading.{ItemReader, argument_at, string_at, chunk_at, chunks_at, definite_string_at, chunked_string_at, simple_at, entry_at, array_at, map_at, tagged_at, open_array_at, open_map_at, definite_at, indefinite_at, item_by, item_at}
+use Rattle.cd_cbor.specs.Readings.{Reading, refused, piece, times, until_break}
+use Rattle.cd_cbor.specs.Reading.{ItemReader, chunk_at, chunks_at, definite_string_at, chunked_string_at, simple_at, entry_at, array_at, map_at, tagged_at, open_array_at, open_map_at, definite_at, indefinite_at, item_by, item_at}
 use Rattle.cd_cbor.specs.declared.item.Item.{Item}
 use Rattle.cd_cbor.specs.declared.fault.Why.{Why}
 use Rattle.cd_cbor.specs.declared.fault.Why.TheVariants as why

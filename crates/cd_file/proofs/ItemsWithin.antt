@@ -8,7 +8,6 @@ use Rattle.cd_cbor.specs.Items.{unsigned, negative, array, entries}
 use Rattle.cd_cbor.specs.Spells.{other, string_item}
 use Rattle.cd_cbor.specs.Readings.{Reading, ◌>>=◌, refused, piece, byte_at, times, until_break}
 use Rattle.cd_cbor.specs.Reading.{ItemReader, joined, argument_at, string_at, chunk_at, chunks_at, definite_string_at, chunked_string_at, simple_at, entry_at, array_at, map_at, tagged_at, open_array_at, open_map_at, definite_at, indefinite_at, item_by, item_at}
-use Rattle.cd_cbor.specs.declared.item.Item.{Item}
 use Rattle.cd_cbor.specs.declared.fault.Why.{Why}
 use Rattle.cd_cbor.specs.declared.fault.Why.TheVariants as why
 use Rattle.cd_cbor.specs.declared.fault.CborFault.{CborFault}
