@@ -18,3 +18,7 @@ pub mod ItemsGo
 pub mod HeadsGo
 pub mod FrontsGo
 pub mod FileGrows
+pub mod FaultsWithin
+pub mod FrontsJudged
+pub mod ItemsScanned
+pub mod PartsRead

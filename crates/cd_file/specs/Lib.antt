@@ -18,3 +18,4 @@ pub mod FileGrowth
 pub mod Readable
 pub mod ReadBack
 pub mod ItemReading
+pub mod Fronts

@@ -42,6 +42,7 @@ mod block;
 mod end;
 mod entries;
 mod file_reader;
+mod fronts;
 mod head;
 mod items;
 pub mod key_laws;

@@ -5,3 +5,5 @@ mod arrays;
 mod fault;
 mod heads;
 mod kinds;
+
+pub use fault::ItemFault;
