@@ -18,7 +18,13 @@ pub mod ItemsGo
 pub mod HeadsGo
 pub mod FrontsGo
 pub mod FileGrows
+pub mod PartsPassed
 pub mod FaultsWithin
 pub mod FrontsJudged
 pub mod ItemsScanned
 pub mod PartsRead
+pub mod FileHistories
+pub mod Passings
+pub mod StepsTaken
+pub mod FileEnds
+pub mod NextBlocks

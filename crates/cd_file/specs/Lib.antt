@@ -15,7 +15,9 @@ pub mod ReadFile
 pub mod KeptFile
 pub mod FileReading
 pub mod FileGrowth
+pub mod Fronts
+pub mod Passing
+pub mod Steps
 pub mod Readable
 pub mod ReadBack
 pub mod ItemReading
-pub mod Fronts
