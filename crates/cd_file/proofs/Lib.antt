@@ -13,6 +13,12 @@ pub mod HeadsOf
 pub mod PreambleSize
 pub mod HeadsSeen
 pub mod Elements
+pub mod ItemsWithin
+pub mod ItemsGo
+pub mod HeadsGo
+pub mod FrontsGo
+pub mod FileGrows
+pub mod PartsPassed
 pub mod FaultsWithin
 pub mod ItemsScanned
 pub mod PartsRead
@@ -24,3 +30,8 @@ pub mod ParamsJudged
 pub mod EntriesMet
 pub mod TimesSeen
 pub mod FieldsPut
+pub mod FileHistories
+pub mod Passings
+pub mod StepsTaken
+pub mod FileEnds
+pub mod NextBlocks

@@ -1,5 +1,5 @@
 -- What a reader of a file keeps, for which histories it stands, and what its calls answer.
-use Rattle.std.specs.Prelude.{◌≡◌, ℕ, Bool, true, false, List, [], ◌∷◌, ◌++◌, length, slice_get, Option, Some, None, option_and_then, Result, Ok, Err, if◌then◌else◌}
+use Rattle.std.specs.Prelude.{◌≡◌, ℕ, ◌+◌, Bool, true, false, List, [], ◌∷◌, ◌++◌, length, slice_get, Option, Some, None, option_and_then, Result, Ok, Err, if◌then◌else◌}
 use Rattle.cd_block.specs.declared.block.Block.{Block}
 use Rattle.cd_block.specs.declared.params.Params.{Params}
 use Rattle.cd_file.specs.declared.refusal.BadFile.{BadFile}
@@ -55,13 +55,11 @@ pub record Kept : Type 0 where
   -- whether a call found no memory and left nothing to go on with
   pub is_spent : Bool
 
--- The bytes fed are those that are read and those that are held. However they go on after those that are read, the file has
--- the blocks given, and then what is read from here on.
+-- Of the bytes fed those up to the offset are read. However the bytes fed go on, the file has the blocks given, and then what
+-- the bytes held, and those that come, hold from the offset on.
 pub record GoesOn (r : Kept) (fed : List ℕ) (given : List Block) : Type 0 where
-  pub front : List ℕ
-  pub split : fed ≡ front ++ r.held
-  pub place : length front ≡ r.at
-  pub reads : (more : List ℕ) → read_file (front ++ more) ≡ after_blocks given (reading_on r.due r.at more)
+  pub place : r.at + length r.held ≡ length fed
+  pub reads : (more : List ℕ) → read_file (fed ++ more) ≡ after_blocks given (reading_on r.due r.at (r.held ++ more))
 
 -- However the bytes fed go on, the file has the block parameters told and the blocks given and no other, and this refusal.
 pub record IsRefused (bad : BadFile) (r : Kept) (fed : List ℕ) (given : List Block) : Type 0 where

@@ -14,10 +14,13 @@ pub mod ItemHeads
 pub mod ReadFile
 pub mod KeptFile
 pub mod FileReading
+pub mod FileGrowth
+pub mod Fronts
+pub mod Passing
+pub mod Steps
 pub mod Readable
 pub mod ReadBack
 pub mod ItemReading
-pub mod Fronts
 pub mod Putting
 pub mod StringReading
 pub mod Meeting

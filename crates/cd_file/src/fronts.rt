@@ -13,5 +13,5 @@ pub use ending::{Ending, Unread};
 pub use file_end::{closing, nothing_more};
 pub use heads::{Head, count_front, element_head, outer_front, title_head};
 pub use item::ItemScan;
-pub use parts::{block_front, preamble_front};
+pub use parts::{BLOCK_DEPTH, PREAMBLE_DEPTH, block_front, preamble_front};
 pub use title::{chunk_front, is_title, title_front};

@@ -5,6 +5,7 @@ ghost use Rattle.cd_block.specs.declared.block.Block.{Block};
 ghost use Rattle.cd_block.specs.declared.params.Params.{Params};
 ghost use Rattle.cd_file.specs.Files.{file_head, block_spelling, file_begun, file_end, file_of};
 ghost use Rattle.cd_file.specs.ReadBack.{FileIsReadBack, OpenFileIsReadBack, FileIsKept};
+ghost use Rattle.cd_file.specs.FileGrowth.{FilesGrow};
 
 /// A head, then each block in turn, then the end are the file of these parameters and blocks.
 pub fn a_file_grows_by_its_blocks()
@@ -22,4 +23,10 @@ pub fn what_is_written_is_read_back()
     ensures whole { FileIsReadBack }
     ensures begun { OpenFileIsReadBack }
     ensures kept { FileIsKept }
+{}
+
+/// As the bytes of a file go on, the block parameters and the blocks that were read stay, and more blocks may follow.
+/// After a refusal nothing does.
+pub fn files_grow()
+    ensures { FilesGrow }
 {}

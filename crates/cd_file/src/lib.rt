@@ -49,6 +49,7 @@ pub mod key_laws;
 pub mod laws;
 mod opcodes;
 mod preamble;
+mod progress;
 mod reading;
 mod refusal;
 pub mod size_laws;
@@ -58,6 +59,6 @@ mod tables;
 
 pub use block::block_bytes;
 pub use end::end_bytes;
-pub use file_reader::Next;
+pub use file_reader::{FileReader, Next};
 pub use head::head_bytes;
 pub use refusal::{BadFile, FileFault, FileWhy};

@@ -1,0 +1,12 @@
+use Rattle.std.proofs.Common.{◌≡◌, None, ap, sym, subst, ◌∙◌}
+use Rattle.cd_file.specs.contracts.progress.Progress.{the_view}
+use Rattle.cd_file.specs.ReadFile.{block_front}
+use Rattle.cd_file.specs.Passing.{Progressed, IsScanned, end_of_blocks}
+use Rattle.cd_file.specs.declared.fronts.ending.Unread.TheVariants as unread
+use Rattle.cd_file.proofs.Passings.{passes_block, stops_blocks, stops_block}
+use Rattle.cd_file.proofs.progress.Progress.pass_block.Goals as goal
+
+pub returns-in-Some : goal.returns-in-Some
+returns-in-Some c = λ entries few.
+    rw (← c.self.view_is)
+    (stops_blocks (the_view c.self.inside) entries c.args.held.now c.args.at c.args.left (ap (λ p. p.stage) c.self.view_is ∙ c.requires.stage) c.in-Some.last c.in-Some.ensures (subst (λ (p : Progressed). IsScanned p.stage p.mark c.args.held.now) (sym c.self.view_is) c.requires.scanned))
