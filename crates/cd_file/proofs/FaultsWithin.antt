@@ -1,7 +1,7 @@
 -- A fault of what is read lies within the bytes, or at their end.
 use Rattle.std.proofs.Common.{◌≡◌, ℕ, zero, suc, ◌+◌, ◌/◌, ◌%◌, ◌<◌, ◌≤◌, Bool, true, false, cond, List, length, Result, Ok, Err, inl, inr, refl, arith}
-use Rattle.std.specs.Prelude.{nat_lt, nat_eq, ◌&&◌}
-use Rattle.std.proofs.lemmas.Bool.{cases_lt, le-ltb}
+use Rattle.std.specs.Prelude.{nat_lt, nat_eq, slice_index, ◌&&◌}
+use Rattle.std.proofs.lemmas.Bool.{cases_lt, lt-ltb, le-ltb}
 use Rattle.cd_cbor.specs.Heads.{major_type, argument_size}
 use Rattle.cd_cbor.specs.Spells.{most_string, is_content}
 use Rattle.cd_cbor.specs.Readings.{Reading, ◌>>=◌, refused, piece, byte_at, times, until_break}

@@ -1,10 +1,11 @@
 -- What a scan of the bytes that are held says of the item at the front.
-use Rattle.std.proofs.Common.{◌≡◌, ℕ, zero, suc, ◌+◌, ◌-◌, ◌<◌, ◌≤◌, List, [], ◌∷◌, ◌++◌, length, take, drop, Result, Ok, Err, refl, ap, sym, subst, ◌∙◌, arith, append-nil}
+use Rattle.std.proofs.Common.{◌≡◌, ℕ, zero, suc, ◌+◌, ◌-◌, ◌<◌, ◌≤◌, ◌^◌, List, [], ◌∷◌, ◌++◌, length, take, drop, Result, Ok, Err, refl, ap, sym, subst, ◌∙◌, arith, append-nil}
 use Rattle.std.specs.Prelude.{All}
 use Rattle.std.proofs.lemmas.List.{take-append-drop, length-take}
 use Rattle.std.proofs.lemmas.List.Elements.{All-take}
-use Rattle.cd_cbor.specs.Readings.{refused}
+use Rattle.cd_cbor.specs.Readings.{Reading, ◌>>=◌, refused}
 use Rattle.cd_cbor.specs.Reading.{item_at}
+use Rattle.cd_cbor.specs.Ends.{end_of}
 use Rattle.cd_cbor.specs.Scanning.{Mark, IsMarked, Judges}
 use Rattle.cd_cbor.specs.declared.item.Item.{Item}
 use Rattle.cd_cbor.specs.declared.scan.Judged.{Judged}
@@ -17,7 +18,7 @@ use Rattle.cd_cbor.proofs.Marks.{marked_grow}
 use Rattle.cd_cbor.proofs.PassedOver.{end_value}
 use Rattle.cd_cbor.proofs.Growing.{item_goes, item_within}
 use Rattle.cd_file.specs.declared.refusal.FileWhy.TheVariants.{Cbor}
-use Rattle.cd_file.specs.ReadFile.{FileEnd, Refused, judged_or, most_item, unfinished_item, item_front}
+use Rattle.cd_file.specs.ReadFile.{FileEnd, Open, Refused, judged_or, most_item, unfinished_item, item_front}
 use Rattle.cd_file.specs.Fronts.{StandsForItem}
 use Rattle.cd_file.proofs.FaultsWithin.{item_lies}
 
