@@ -1,11 +1,9 @@
 -- What a reader of a file finds ahead, and what the end of the bytes says of the file.
-use Rattle.std.proofs.Common.{◌≡◌, ℕ, ◌+◌, List, [], ◌∷◌, ◌++◌, length, drop, Option, Some, None, Ok, Err, refl, ap, sym, subst, ◌∙◌, arith, length-append}
+use Rattle.std.proofs.Common.{◌≡◌, ℕ, ◌+◌, List, [], ◌++◌, length, drop, Option, Some, None, Ok, Err, refl, ap, sym, subst, ◌∙◌, arith, length-append}
 use Rattle.std.proofs.lemmas.List.{append-nil}
 use Rattle.cd_block.specs.declared.block.Block.{Block}
-use Rattle.cd_block.specs.declared.params.Params.{Params}
 use Rattle.cd_file.specs.declared.refusal.BadFile.{BadFile}
 use Rattle.cd_file.specs.declared.refusal.FileWhy.{FileWhy}
-use Rattle.cd_file.specs.declared.refusal.FileWhy.TheVariants.{Cbor}
 use Rattle.cd_file.specs.declared.fronts.ending.Ending.{Ending}
 use Rattle.cd_file.specs.declared.fronts.ending.Unread.TheVariants as unread
 use Rattle.cd_file.specs.declared.progress.Found.{Found}
@@ -15,7 +13,7 @@ use Rattle.cd_file.specs.Fronts.{ending_of}
 use Rattle.cd_file.specs.Passing.{Progressed, due_of, told_at, blocks_in, entries_after, Advances, Passes}
 use Rattle.cd_file.specs.Steps.{rest_of, IsAhead}
 use Rattle.cd_file.proofs.StepsTaken.{told_known, rest_is}
-use Rattle.cd_file.proofs.FileHistories.{unrefused, at_refusal, read_now}
+use Rattle.cd_file.proofs.FileHistories.{at_refusal, read_now}
 
 module _ (total : FileRead) (given : ℕ) (p : Progressed) (entry_count at : ℕ) (held : List ℕ) (count : ℕ) (a : IsAhead total given p entry_count at held count) where
   -- a part is passed

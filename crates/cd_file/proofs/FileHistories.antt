@@ -1,5 +1,5 @@
 -- For which histories a reader of a file stands, and what its answers say of the bytes fed.
-use Rattle.std.proofs.Common.{◌≡◌, ℕ, ◌+◌, ◌≤◌, true, false, List, [], ◌∷◌, ◌++◌, length, Option, Some, None, Ok, Err, refl, ap, sym, subst, ◌∙◌, arith, append_assoc, length-append}
+use Rattle.std.proofs.Common.{◌≡◌, ℕ, ◌+◌, false, List, [], ◌∷◌, ◌++◌, length, Option, Some, None, Ok, Err, refl, ap, sym, subst, ◌∙◌, arith, append_assoc, length-append}
 use Rattle.std.proofs.lemmas.List.{append-nil}
 use Rattle.cd_block.specs.declared.block.Block.{Block}
 use Rattle.cd_block.specs.declared.params.Params.{Params}
@@ -8,7 +8,7 @@ use Rattle.cd_file.specs.declared.refusal.BadFile.{BadFile}
 use Rattle.cd_file.specs.declared.refusal.FileWhy.{FileWhy}
 use Rattle.cd_file.specs.declared.refusal.FileFault.TheVariants as fault
 use Rattle.cd_file.specs.declared.file_reader.Next.TheVariants as next
-use Rattle.cd_file.specs.ReadFile.{FileEnd, Whole, Open, Refused, FileRead, after_blocks, read_file, number_after, refusal_at, refusal_in, told_refusal}
+use Rattle.cd_file.specs.ReadFile.{FileEnd, Whole, Open, Refused, FileRead, after_blocks, read_file, number_after, refusal_in}
 use Rattle.cd_file.specs.FileReading.{Kept, Due, reading_on, GoesOn, IsRefused, Stands, StandsFor, Nexts, Tells}
 use Rattle.cd_file.specs.Steps.{Moves, ended_here}
 use Rattle.cd_file.proofs.PartsPassed.{stage_grows}

@@ -1,5 +1,5 @@
 -- What a call for a block answers after the steps that it made.
-use Rattle.std.proofs.Common.{◌≡◌, ℕ, List, [], ◌∷◌, ◌++◌, Option, Some, None, Ok, Err, refl, ap, sym, subst, ◌∙◌}
+use Rattle.std.proofs.Common.{◌≡◌, ℕ, List, [], ◌∷◌, Some, None, Ok, Err, refl, ap, sym, subst, ◌∙◌}
 use Rattle.std.proofs.lemmas.List.{append-nil}
 use Rattle.cd_block.specs.declared.block.Block.{Block}
 use Rattle.cd_file.specs.declared.refusal.BadFile.{BadFile}

@@ -13,11 +13,11 @@ use Rattle.cd_file.specs.declared.stage.Stage.{Stage}
 use Rattle.cd_file.specs.declared.stage.Stage.TheVariants as stage
 use Rattle.cd_file.specs.declared.refusal.FileWhy.TheVariants.{NotCdns}
 use Rattle.cd_file.specs.ItemHeads.{chunk_head}
-use Rattle.cd_file.specs.ReadFile.{FileEnd, Open, Refused, FileRead, headless, blockless, after_blocks, Front, onward, begins_with_break, most_item, item_front, outer_front, title_head, is_title, title_front, chunk_front, preamble_front, count_front, block_front, closing, one_less, blocks_on, array_on, preamble_on, chunks_on, title_by, title_on, read_file}
+use Rattle.cd_file.specs.ReadFile.{FileEnd, Open, Refused, FileRead, headless, blockless, after_blocks, Front, onward, begins_with_break, most_item, item_front, outer_front, title_head, is_title, title_front, chunk_front, preamble_front, count_front, block_front, closing, one_less, blocks_on, array_on, preamble_on, chunks_on, title_on, read_file}
 use Rattle.cd_file.specs.FileGrowth.{Grows}
-use Rattle.cd_file.specs.FileReading.{Due, stage_on, reading_on}
+use Rattle.cd_file.specs.FileReading.{stage_on}
 use Rattle.cd_file.specs.Passing.{Advances, end_of_blocks}
-use Rattle.cd_file.proofs.FrontsGo.{Stays, Fills, outer_stays, outer_fills, title_head_stays, title_head_fills, title_stays, title_fills, chunk_stays, chunk_fills, preamble_stays, preamble_fills, count_stays, count_fills, block_stays, block_fills}
+use Rattle.cd_file.proofs.FrontsGo.{Stays, outer_stays, outer_fills, title_head_stays, title_head_fills, title_stays, title_fills, chunk_stays, chunk_fills, preamble_stays, preamble_fills, count_stays, count_fills, block_stays, block_fills}
 use Rattle.cd_file.proofs.FileGrows.{block_by, blocks_known, onward_there, files_grow, title_grows, chunks_grow, preamble_grows, array_grows, blocks_grows}
 
 -- what is read from here on stays as the bytes go on

@@ -1,5 +1,5 @@
 -- What a call answers that reads a part at the front of the bytes held, by what is due there.
-use Rattle.std.proofs.Common.{◌≡◌, ℕ, ◌+◌, Bool, true, false, List, [], ◌∷◌, ◌++◌, length, drop, Option, Some, None, Ok, Err, refl, ap, sym, ◌∙◌}
+use Rattle.std.proofs.Common.{◌≡◌, ℕ, Bool, true, false, List, [], length, drop, Option, Some, None, Ok, Err, refl, sym}
 use Rattle.std.specs.Prelude.{option_map}
 use Rattle.cd_cbor.specs.Scanning.{Mark}
 use Rattle.cd_block.specs.declared.block.Block.{Block}

@@ -1,5 +1,5 @@
 -- A part that is read at the front of the bytes held is a step of the reader.
-use Rattle.std.proofs.Common.{◌≡◌, ℕ, ◌+◌, ◌≤◌, Bool, List, [], ◌∷◌, ◌++◌, length, drop, Option, Some, None, Ok, Err, refl, ap, sym, subst, ◌∙◌, arith}
+use Rattle.std.proofs.Common.{◌≡◌, ℕ, ◌+◌, ◌≤◌, Bool, List, [], ◌++◌, length, drop, Option, None, Ok, Err, refl, ap, sym, subst, ◌∙◌, arith}
 use Rattle.std.proofs.lemmas.List.{drop-drop, length-drop, drop-append-le}
 use Rattle.cd_cbor.specs.Scanning.{Mark}
 use Rattle.cd_block.specs.declared.block.Block.{Block}
@@ -7,16 +7,15 @@ use Rattle.cd_block.specs.declared.params.Params.{Params}
 use Rattle.cd_file.specs.declared.stage.Stage.{Stage}
 use Rattle.cd_file.specs.declared.stage.Stage.TheVariants as stage
 use Rattle.cd_file.specs.declared.refusal.BadFile.{BadFile}
-use Rattle.cd_file.specs.declared.fronts.ending.Ending.{Ending}
 use Rattle.cd_file.specs.declared.fronts.ending.Unread.{Unread}
 use Rattle.cd_file.specs.declared.fronts.ending.Unread.TheVariants as unread
 use Rattle.cd_file.specs.declared.progress.Found.{Found}
-use Rattle.cd_file.specs.ReadFile.{FileEnd, FileRead, after_blocks}
+use Rattle.cd_file.specs.ReadFile.{after_blocks}
 use Rattle.cd_file.specs.FileReading.{Kept, Due, reading_on}
-use Rattle.cd_file.specs.Passing.{Progressed, known_at, due_of, told_at, ended_so, IsPlaced, IsScanned, blocks_in, entries_after, Advances, Passes}
+use Rattle.cd_file.specs.Passing.{Progressed, known_at, due_of, told_at, IsPlaced, IsScanned, blocks_in, entries_after, Advances, Passes}
 use Rattle.cd_file.specs.Fronts.{ending_of}
 use Rattle.cd_file.proofs.ItemsScanned.{item_stands}
-use Rattle.cd_file.specs.Steps.{Moves, Steps, ended_here}
+use Rattle.cd_file.specs.Steps.{Moves, Steps}
 
 -- what is told is told of what counts
 pub told_known : (s : Stage) (entries : List Params) → told_at s entries ≡ told_at s (known_at s entries)

@@ -1,6 +1,6 @@
 //! A reader of a file that comes in pieces.
 
-ghost use Rattle.std.specs.Prelude.{◌≡◌, ℕ, ◌+◌, ◌≤◌, ◌<◌, ◌^◌, [], ◌∷◌, ◌++◌, List, length, drop, Option, Some, None, OnOk, OnErr, Ok, Err, option_map};
+ghost use Rattle.std.specs.Prelude.{◌≡◌, ℕ, ◌+◌, ◌≤◌, ◌<◌, ◌^◌, [], ◌∷◌, ◌++◌, List, length, drop, Option, Some, None, OnOk, OnErr, IsErr, Ok, Err, option_map};
 ghost use Rattle.std.specs.Prelude.{false, true};
 ghost use Rattle.cd_block.specs.declared.block.Block.{Block as BlockRead};
 ghost use Rattle.cd_block.specs.declared.params.Params.{Params as ParamsRead};
@@ -58,8 +58,8 @@ fn number_after(stage: Stage, count: u64) -> u64
     }
 }
 
-/// Reads a file (RFC 8618 7.3) that comes in pieces: its block parameters and its blocks. However the bytes are cut, they
-/// are the same, and so is the refusal of a file that is none.
+/// Reads a file (RFC 8618 7.3) that comes in pieces: its block parameters and its blocks. However the bytes are cut,
+/// they are the same, and so is the refusal of a file that is none.
 #[derive(Drop)]
 pub struct FileReader {
     alloc: Global,
@@ -171,6 +171,7 @@ impl FileReader {
             → Feeds self.old self.new (fed ++ piece.now) given result }
         ensures count { OnOk result (self.new.fed_count ≡ self.old.fed_count + length piece.now) }
         ensures err { OnErr result (self.new ≡ self.old) }
+        ensures spent { self.old.is_spent ≡ true → IsErr result }
     {
         if self.is_spent {
             return Err(AllocError);
@@ -232,12 +233,13 @@ impl FileReader {
     }
 
     /// The next block, as long as there is one that is whole and stands before the first refusal. `More` says that the
-    /// bytes fed end before that, and hold no refusal; `End` that the file is whole. `Bad` is the first refusal; each later
-    /// call says it again, whatever is fed. After `NoMemory` the reader is spent: each call finds no memory.
+    /// bytes fed end before that, and hold no refusal; `End` that the file is whole. `Bad` is the first refusal; each
+    /// later call says it again, whatever is fed. After `NoMemory` the reader is spent: each call finds no memory.
     pub fn next_block(&mut self) -> Result<Next, FileFault>
         ensures history { (fed : List ℕ) (given : List BlockRead) → StandsFor self.old fed given
             → Nexts self.new fed given result }
-        ensures tells { (fed : List ℕ) (given : List BlockRead) → StandsFor self.old fed given → Tells self.new fed result }
+        ensures tells { (fed : List ℕ) (given : List BlockRead) → StandsFor self.old fed given
+            → Tells self.new fed result }
         ensures keeps { NextKeeps self.old self.new result }
         ensures again { RefusesAgain self.old self.old.refused result }
         ensures spent { StaysSpent fault.NoMemory self.old self.new result }
@@ -305,9 +307,9 @@ impl FileReader {
         Err(FileFault::Bad(bad))
     }
 
-    /// Says that no byte comes after those fed: whether the file is whole. `Bad` is the first refusal of the file of these
-    /// bytes, an end that comes too early too; each later call says it again, until more is fed. No block is given
-    /// by it. After `NoMemory` the reader is spent.
+    /// Says that no byte comes after those fed, and tells whether the file is whole. `Bad` is the first refusal of the
+    /// file of just these bytes, which an end that comes too early is too, at the number of bytes; each later call says
+    /// it again, until more is fed. It gives no block. After `NoMemory` the reader is spent.
     pub fn end(&mut self) -> Result<(), FileFault>
         ensures history { (fed : List ℕ) (given : List BlockRead) → StandsFor self.old fed given
             → Ends self.new fed given result }
@@ -341,7 +343,8 @@ impl FileReader {
         }
     }
 
-    /// The block parameters with this number, once a call of `next_block` came past the head of the array of blocks.
+    /// The block parameters with this number, once a call of `next_block` came past the head of the array of blocks, the
+    /// third item of the file. A reader that is spent tells none.
     pub fn params(&self, number: u64) -> Option<&Params>
         ensures { option_map (λ p. p.now) result ≡ told_params self.now number }
     {

@@ -1,4 +1,4 @@
-//! Writes C-DNS files (RFC 8618 7.3) in their one canonical spelling, and says what reading a file gives.
+//! Writes C-DNS files (RFC 8618 7.3) in their one canonical spelling, and reads files in any spelling.
 //!
 //! - A *file* is an array of the text "C-DNS", a *preamble* with the block parameters, and an array of *blocks*. The
 //!   array of blocks alone has an indefinite length, so a file is written block by block.
@@ -28,6 +28,8 @@
 //! block_bytes(&second, &mut out)?;
 //! end_bytes(&mut out)?;
 //! ```
+//!
+//! `FileReader` reads a file that comes in pieces: block by block, however its bytes are cut, up to the first refusal.
 //!
 //! What any bytes hold as a file is one function of them (`specs/ReadFile`): block parameters, blocks, and an end, which
 //! may be a refusal (`BadFile`). Each kind of map has one table, with a line a key (`specs/ReadHead`, `specs/ReadTables`,

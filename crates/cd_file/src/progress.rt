@@ -278,7 +278,8 @@ impl Progress {
         requires goes { end_of_blocks self.old.is_open left held.now ≡ None }
         requires scanned { IsScanned self.old.stage self.old.mark held.now }
         requires few { at + length held.now < 2 ^ 64 }
-        ensures { (entries : List Params) → length entries ≡ entry_count → Passes self.old self.new entries at held.now result }
+        ensures { (entries : List Params) → length entries ≡ entry_count
+            → Passes self.old self.new entries at held.now result }
     {
         match block_front(alloc, &mut self.scan, held, entry_count, at) {
             Ok((block, size)) => {
@@ -303,7 +304,8 @@ impl Progress {
         requires stage { self.old.stage ≡ stage.Block left }
         requires scanned { IsScanned self.old.stage self.old.mark held.now }
         requires few { at + length held.now < 2 ^ 64 }
-        ensures { (entries : List Params) → length entries ≡ entry_count → Passes self.old self.new entries at held.now result }
+        ensures { (entries : List Params) → length entries ≡ entry_count
+            → Passes self.old self.new entries at held.now result }
     {
         match end_of_blocks(held, left, self.is_open) {
             Some(last) => Err(Unread::Ended(last)),
@@ -311,8 +313,8 @@ impl Progress {
         }
     }
 
-    /// Reads the part at the front of the bytes held, which stand at an offset of the file: what it is, and its size. The
-    /// file has so many block parameters, once its preamble is read.
+    /// Reads the part at the front of the bytes held, which stand at an offset of the file: what it is, and its size.
+    /// The file has so many block parameters, once its preamble is read.
     pub fn pass(
         &mut self,
         alloc: Global,
@@ -323,7 +325,8 @@ impl Progress {
         requires placed { IsPlaced self.old.stage at }
         requires scanned { IsScanned self.old.stage self.old.mark held.now }
         requires few { at + length held.now < 2 ^ 64 }
-        ensures { (entries : List Params) → length entries ≡ entry_count → Passes self.old self.new entries at held.now result }
+        ensures { (entries : List Params) → length entries ≡ entry_count
+            → Passes self.old self.new entries at held.now result }
     {
         match self.stage {
             Stage::Outer => self.pass_outer(held),

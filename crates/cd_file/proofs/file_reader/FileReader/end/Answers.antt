@@ -1,7 +1,7 @@
 -- What is found ahead is what the end says.
-use Rattle.std.proofs.Common.{◌≡◌, Some, ap, sym, refl, ◌∙◌}
+use Rattle.std.proofs.Common.{ap, sym, refl, ◌∙◌}
 use Rattle.cd_file.specs.declared.refusal.FileWhy.TheVariants.{Cbor}
-use Rattle.cd_file.specs.ReadFile.{Open, Refused, told_refusal}
+use Rattle.cd_file.specs.ReadFile.{Open, Refused}
 use Rattle.cd_file.specs.Fronts.{ending_of}
 use Rattle.cd_file.proofs.FileEnds.{stands_ended, whole_ahead, end_ahead, refused_ahead}
 use Rattle.cd_file.proofs.file_reader.FileReader.end.Goals as goal

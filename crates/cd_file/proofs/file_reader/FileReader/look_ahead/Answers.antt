@@ -1,5 +1,5 @@
 -- Each part that is passed leaves what is left.
-use Rattle.std.proofs.Common.{◌≡◌, ◌+◌, sym, arith}
+use Rattle.std.proofs.Common.{◌+◌, sym, arith}
 use Rattle.cd_file.specs.declared.progress.Found.TheVariants as found
 use Rattle.cd_file.proofs.StepsTaken.{left_over}
 use Rattle.cd_file.proofs.FileEnds.{ahead_found}

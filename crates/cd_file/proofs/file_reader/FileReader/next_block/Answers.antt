@@ -1,7 +1,6 @@
 -- Each step of the loop is a step of the history.
-use Rattle.std.proofs.Common.{◌≡◌, Ok, Err, None, Some, ap, sym, subst, refl, ◌∙◌, arith}
+use Rattle.std.proofs.Common.{Ok, Err, ap, subst, ◌∙◌, arith}
 use Rattle.cd_file.specs.contracts.file_reader.FileReader.{the_view}
-use Rattle.cd_file.specs.declared.fronts.ending.Ending.TheVariants as ending
 use Rattle.cd_file.specs.declared.fronts.ending.Unread.TheVariants as unread
 use Rattle.cd_file.specs.Steps.{Steps}
 use Rattle.cd_file.proofs.FileHistories.{tells_again}

@@ -1,10 +1,7 @@
 -- What is passed at the front of the bytes held is a step.
-use Rattle.std.proofs.Common.{◌≡◌, ◌+◌, drop, length, Ok, Err, ap, sym, subst, refl, ◌∙◌, arith}
-use Rattle.std.proofs.lemmas.List.{length-drop}
+use Rattle.std.proofs.Common.{◌+◌, sym, arith}
 use Rattle.cd_file.specs.declared.progress.Found.TheVariants as found
-use Rattle.cd_file.specs.declared.fronts.ending.Unread.TheVariants as unread
-use Rattle.cd_file.specs.Passing.{Passes}
-use Rattle.cd_file.proofs.StepsTaken.{IsLeft, left_over, taken_found, untaken}
+use Rattle.cd_file.proofs.StepsTaken.{taken_found}
 use Rattle.cd_file.proofs.file_reader.FileReader.step.Goals as goal
 
 pub returns-in-Nothing : goal.returns-in-Nothing

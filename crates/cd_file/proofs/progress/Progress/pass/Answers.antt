@@ -1,7 +1,7 @@
 -- Each stage is read by its own call.
 use Rattle.std.proofs.Common.{◌≡◌, ap, sym, subst, ◌∙◌}
 use Rattle.cd_file.specs.declared.stage.Stage.TheVariants as stage
-use Rattle.cd_file.specs.Passing.{IsPlaced, Passes}
+use Rattle.cd_file.specs.Passing.{IsPlaced}
 use Rattle.cd_file.proofs.progress.Progress.pass.Goals as goal
 
 pub returns-in-Outer : goal.returns-in-Outer

@@ -1,9 +1,9 @@
 use Rattle.std.proofs.Common.{◌≡◌, None, ap, sym, subst, ◌∙◌}
 use Rattle.cd_file.specs.contracts.progress.Progress.{the_view}
 use Rattle.cd_file.specs.ReadFile.{block_front}
-use Rattle.cd_file.specs.Passing.{Progressed, IsScanned, end_of_blocks}
+use Rattle.cd_file.specs.Passing.{Progressed, end_of_blocks}
 use Rattle.cd_file.specs.declared.fronts.ending.Unread.TheVariants as unread
-use Rattle.cd_file.proofs.Passings.{passes_block, stops_blocks, stops_block}
+use Rattle.cd_file.proofs.Passings.{passes_block, stops_block}
 use Rattle.cd_file.proofs.progress.Progress.pass_next.Goals as goal
 
 pub returns-in-Ok : goal.returns-in-Ok
