@@ -15,6 +15,8 @@ mod cbor;
 #[cfg(test)]
 mod driving;
 #[cfg(test)]
+mod files;
+#[cfg(test)]
 mod lists;
 #[cfg(test)]
 mod messages;

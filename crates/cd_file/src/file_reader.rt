@@ -1,6 +1,6 @@
 //! A reader of a file that comes in pieces.
 
-ghost use Rattle.std.specs.Prelude.{◌≡◌, ℕ, ◌+◌, ◌≤◌, ◌<◌, ◌^◌, [], ◌∷◌, ◌++◌, List, length, drop, Option, Some, None, OnOk, OnErr, IsErr, Ok, Err, option_map};
+ghost use Rattle.std.specs.Prelude.{◌≡◌, ℕ, ◌+◌, ◌≤◌, ◌<◌, ◌^◌, [], ◌∷◌, ◌++◌, List, length, drop, Option, Some, None, OnOk, OnErr, IsErr, Ok, Err, is_some, option_map};
 ghost use Rattle.std.specs.Prelude.{false, true};
 ghost use Rattle.cd_block.specs.declared.block.Block.{Block as BlockRead};
 ghost use Rattle.cd_block.specs.declared.params.Params.{Params as ParamsRead};
@@ -118,6 +118,8 @@ impl FileReader {
         ensures history { StandsFor result [] [] }
         ensures count { result.fed_count ≡ 0 }
         ensures at { result.at ≡ 0 }
+        ensures unrefused { result.refused ≡ None }
+        ensures params { result.params ≡ None }
     {
         FileReader {
             alloc,
@@ -341,6 +343,23 @@ impl FileReader {
             }
             Ok((Ending::Refused(why), block)) => self.refuse_end(BadFile { block, why }),
         }
+    }
+
+    /// Whether a call of `next_block` came past the head of the array of blocks, the third item of the file.
+    pub fn has_head(&self) -> bool
+        ensures { result ≡ is_some self.now.params }
+    {
+        match self.progress.stage() {
+            Stage::Block(_left) => true,
+            _ => false,
+        }
+    }
+
+    /// How many bytes were fed.
+    pub fn fed_count(&self) -> u64
+        ensures { result ≡ self.now.fed_count }
+    {
+        self.fed_count
     }
 
     /// The block parameters with this number, once a call of `next_block` came past the head of the array of blocks, the

@@ -1,0 +1,6 @@
+pub mod Inspecting
+pub mod Resolved
+pub mod Growing
+pub mod Lawful
+pub mod Standing
+pub mod ReadCounting
