@@ -1,17 +1,17 @@
 -- The IP packet of a datagram is read as that datagram.
-use Rattle.std.proofs.Common.{◌≡◌, ℕ, zero, suc, ◌+◌, ◌-◌, ◌*◌, ◌/◌, ◌%◌, ◌<◌, ◌≤◌, ◌^◌, Bool, true, false, nat_lt, nat_eq, ◌&&◌, not, ◌⊎◌, List, [], ◌∷◌, ◌++◌, length, take, drop, replicate, Option, Some, None, Result, Ok, Err, if◌then◌else◌, refl, ap, sym, ◌∙◌, arith, inl, inr, take-append-drop, true≢false}
+use Rattle.std.proofs.Common.{◌≡◌, ℕ, zero, suc, ◌+◌, ◌-◌, ◌*◌, ◌/◌, ◌%◌, ◌<◌, ◌≤◌, ◌^◌, Bool, true, false, nat_lt, nat_eq, ◌&&◌, not, ◌⊎◌, List, [], ◌∷◌, ◌++◌, length, take, drop, replicate, Some, None, Result, Ok, if◌then◌else◌, refl, ap, sym, ◌∙◌, arith, inl, inr, take-append-drop, true≢false}
 use Rattle.std.specs.Prelude.{slice_index}
 use Rattle.std.specs.Int.{w16, to_be_bytes}
 use Rattle.std.proofs.Props.{props}
-use Rattle.std.proofs.lemmas.Bool.{cases_Bool, lt-ltb, le-ltb, ltb-false, eq-eqb}
+use Rattle.std.proofs.lemmas.Bool.{cases_Bool, le-ltb, ltb-false, eq-eqb}
 use Rattle.std.proofs.lemmas.List.{length-take-le, take_all}
 use mathlib.Core.HLevel.{Σ_prop_path}
 use Rattle.cd_bytes.specs.Checksum.{checksum_of}
 use Rattle.cd_bytes.specs.Numbers.{be16}
 use Rattle.cd_packet.proofs.Walking.{ipv4_read, walked_ends}
-use Rattle.cd_packet.specs.Building.{address_size, address_bytes, udp_size, udp_header, udp_check, ipv4_front, ipv6_front, ip_header, most_payload, spelled, built, IsBuildable, HoldsIp, BuiltIsRead}
-use Rattle.cd_packet.specs.IpPackets.{ipv4_header, ipv4_packet, ipv6_header, ipv6_packet, version_at, header_length, total_length, is_extension, carried, walked}
-use Rattle.cd_packet.specs.Layers.{Datagram, datagram, time_of, udp_length, udp_datagram, datagram_of, found, layer_of}
+use Rattle.cd_packet.specs.Building.{address_bytes, udp_size, udp_header, udp_check, ipv4_front, ipv6_front, ip_header, most_payload, spelled, built, IsBuildable, HoldsIp, BuiltIsRead}
+use Rattle.cd_packet.specs.IpPackets.{ipv4_header, ipv4_packet, ipv6_header, ipv6_packet, version_at, is_extension, walked}
+use Rattle.cd_packet.specs.Layers.{Datagram, time_of, udp_datagram, datagram_of, found, layer_of}
 use Rattle.cd_packet.specs.Links.{raw_packet, ip_packet_of}
 use Rattle.cd_packet.specs.Readings.{◌>>=◌, needs}
 use Rattle.cd_packet.specs.declared.address.Addr.{Addr}

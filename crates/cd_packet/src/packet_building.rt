@@ -29,7 +29,8 @@ fn address_bytes(addr: &Addr) -> &[u8]
 // Appends the two addresses of a datagram.
 fn push_addresses(bytes: &mut Vec<u8>, dgram: &Dgram) -> Result<(), AllocError>
     requires { dgram.now.src.v6 ≡ dgram.now.dst.v6 }
-    ensures exact { OnOk result (bytes.new.items ≡ bytes.old.items ++ address_bytes dgram.now.src ++ address_bytes dgram.now.dst) }
+    ensures exact { OnOk result (bytes.new.items ≡ bytes.old.items
+        ++ address_bytes dgram.now.src ++ address_bytes dgram.now.dst) }
 {
     bytes.extend_from_slice(address_bytes(&dgram.src))?;
     bytes.extend_from_slice(address_bytes(&dgram.dst))?;
