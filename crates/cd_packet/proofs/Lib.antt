@@ -2,3 +2,4 @@ pub mod Growing
 pub mod Walking
 pub mod Holding
 pub mod Payloads
+pub mod BuildingBack

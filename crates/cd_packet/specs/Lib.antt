@@ -6,3 +6,4 @@ pub mod IpPackets
 pub mod Links
 pub mod Layers
 pub mod Payloads
+pub mod Building

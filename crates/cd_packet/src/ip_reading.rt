@@ -11,9 +11,9 @@ use crate::ip_packet::IpPacket;
 use crate::{Addr, Packet, Reason};
 use cd_bytes::be16;
 
-const IPV4_HEADER: usize = 20;
+pub(crate) const IPV4_HEADER: usize = 20;
 
-const IPV6_HEADER: usize = 40;
+pub(crate) const IPV6_HEADER: usize = 40;
 
 // The protocols of the extension headers of IPv6 that are walked (RFC 8200 4.3, 4.4, 4.6).
 const HOP_BY_HOP: u8 = 0;

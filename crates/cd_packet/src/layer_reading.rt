@@ -12,9 +12,9 @@ use crate::link_reading::{ETHERNET_HEADER, LINK_ETHERNET, PROTOCOL_IPV4, ip_pack
 use crate::{Dgram, Layer, Packet, Reason, When};
 use cd_bytes::be16;
 
-const PROTOCOL_UDP: u8 = 17;
+pub(crate) const PROTOCOL_UDP: u8 = 17;
 
-const UDP_HEADER: usize = 8;
+pub(crate) const UDP_HEADER: usize = 8;
 
 // The time of a packet.
 fn time_of(packet: &Packet) -> Result<u64, Reason>

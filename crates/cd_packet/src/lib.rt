@@ -3,6 +3,7 @@
 //! - A *capture* is a list of packets and an end. Each format says in a crate of its own what its bytes hold.
 //! - A `Packet` is one record of it: an offset, a time, a link type, the original length and the captured bytes.
 //! - `layers` reads the link, network and transport layer of a packet: a `Dgram`, or the `Reason` why there is none.
+//! - `build` writes the IP packet that holds a `Dgram`.
 //!
 //! An example: a packet of Ethernet holds an IPv4 packet of 29 bytes from 192.0.2.77 to 192.0.2.53, and in it UDP from
 //! port 40000 to port 53 with one byte. For port 53 `layers` gives a `Dgram` with that byte as its payload, and for
@@ -21,6 +22,7 @@ mod layer_reading;
 mod link_reading;
 mod magic;
 mod packet;
+mod packet_building;
 
 pub use address::Addr;
 pub use capture::{BadCapture, CaptureWhy, EndState, FeedFault};
@@ -28,3 +30,4 @@ pub use datagram::{Dgram, Layer, Reason};
 pub use layer_reading::{is_ethernet_ipv4, layers};
 pub use magic::has_magic;
 pub use packet::{Packet, When};
+pub use packet_building::build;
