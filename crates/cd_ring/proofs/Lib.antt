@@ -1,0 +1,9 @@
+pub mod Core
+pub mod TakingPlaces
+pub mod Harvest
+pub mod CoordinatorSteps
+pub mod Looked
+pub mod Moves
+pub mod Rests
+pub mod Takes
+pub mod WordSteps
