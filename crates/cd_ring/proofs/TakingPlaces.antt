@@ -13,7 +13,7 @@ use Rattle.cd_ring.specs.Kinds.{Seated, opening_view, no_look, with_note}
 use Rattle.cd_ring.specs.Rest.{spares, AtRest}
 use Rattle.cd_ring.specs.Opening.{IsTakingPlaces}
 use Rattle.cd_ring.proofs.Core.{at_replicate}
-use Rattle.cd_ring.proofs.Harvest.{at_all}
+use Rattle.cd_ring.proofs.SeatSteps.{at_all}
 use Rattle.cd_ring.proofs.Rests.{spares_one}
 
 pub none_held : {J : Type 0} (l : List (Option J)) (i : ℕ) (x : J) → let z : Option J = None in (get_elem? (map (λ (_ : Option J). z) l) i ≡ some (Some x) → ⊥)
@@ -29,6 +29,7 @@ module _ {T J D : Type 0} (task : T) (slots : ℕ) where
     out_is = refl;
     taken_is = refl;
     held_is = refl;
+    stopped_is = refl;
     notes_long = length-replicate slots Home;
     looks_long = length-replicate (slots + 1) no_look;
     low = omega arith;
@@ -45,6 +46,7 @@ module _ {T J D : Type 0} (task : T) (slots : ℕ) where
     out_is = ap (λ (z : Known T J D). z.out) e ∙ f.out_is;
     taken_is = ap (λ (z : Known T J D). z.taken) e ∙ f.taken_is;
     held_is = ap (λ (z : Known T J D). z.held) e ∙ f.held_is;
+    stopped_is = ap (λ (z : Known T J D). z.stopped) e ∙ f.stopped_is;
     notes_long = ap (λ (z : Known T J D). length z.notes) e ∙ (length-set m.0.known.notes left Spare ∙ f.notes_long);
     looks_long = g ∙ f.looks_long;
     low = omega arith;

@@ -30,6 +30,13 @@ head_at (y ∷ l) (suc t) x xs e = let h = head_at l t x xs e in (h.0, h.1 ∙ a
 pub tells : {S V : Type 0} (holds : State S V → Type 0) (n id i : ℕ) (me : Me S V) (f : ℕ → ℕ) (P Q : ℕ → Me S V → Type 0) → Allows holds n id me i f P → ((y : ℕ) (m : Me S V) → P y m → Q y m) → Allows holds n id me i f Q
 tells holds n id i me f P Q a less s r wide at fits = let g = a s r wide at fits in (g.0, g.1, g.2, g.3, less _ _ g.4)
 
+-- what a list says of a slot that it has and that is not held
+none_there : {J : Type 0} (l : List (Option J)) (i : ℕ) → i < length l → ((y : J) → get_elem? l i ≡ some (Some y) → ⊥) → get_elem? l i ≡ some None
+none_there [] i near no_some = absurd (omega arith)
+none_there (None ∷ l) zero near no_some = refl
+none_there (Some x ∷ l) zero near no_some = absurd (no_some x refl)
+none_there (y ∷ l) (suc i) near no_some = none_there l i (omega arith) no_some
+
 module _ {T J D : Type 0} (meets : J → D → Type 0) (task : T) (slots : ℕ) where
   abbrev S : Type 0
   S = State (Place J D) (View T J D)
@@ -105,11 +112,19 @@ module _ {T J D : Type 0} (meets : J → D → Type 0) (task : T) (slots : ℕ) 
   claim_goes s r i id me near held_near at is (taken p j) e sh = let w = sh.0 in absurd (omega arith)
   claim_goes s r i id me near held_near at is (done p d) e sh = let w = sh.0 in absurd (omega arith)
 
+  -- who claims a slot that is READY did not hold it
+  not_held : (s : S) (r : Holding s) (i id : ℕ) (me : M) (p : ℕ) → i < length me.0.known.held → get_elem? s.views id ≡ some me.0 → get_elem? r.core.phases i ≡ some (ready p)
+      → get_elem? me.0.known.held i ≡ some None
+  not_held s r i id me p near at phase = none_there me.0.known.held i near
+      (λ y e. let o = r.held id me.0.known i y (at_map known s.views id me.0 at) e in
+      let same : ready p ≡ taken o.0 id = some-injective (ready p) (taken o.0 id) (sym phase ∙ o.1) in cc)
+
   pub claims : (n id : ℕ) (me : M) (i : ℕ) → i < slots → i < length me.0.known.held → Allows Holding n id me i (λ x. either (eqb x READY) TAKEN x) (claimed (step n i READY TAKEN none) me)
   claims n id me i near held_near s r wide at _ = let y : ℕ = get_or s.words i 0 in let told = claimed (step n i READY TAKEN none) me in exchanged y READY TAKEN (Goes s i id me told)
-      (λ hit. let ph = phase_at meets task slots s.words s.homes (map known s.views) r i near in let got = (claim_goes s r i id me near held_near at hit ph.0 ph.1 ph.2).2 in let x : J = got.0 in
+      (λ hit. let ph = phase_at meets task slots s.words s.homes (map known s.views) r i near in let goes = claim_goes s r i id me near held_near at hit ph.0 ph.1 ph.2 in let got = goes.2 in let x : J = got.0 in
+      let free_before = not_held s r i id me goes.0 held_near at (ph.1 ∙ ap some goes.1) in
       let w = seen me.0 i y (with_held me.0.known i (Some x)) in
-      (w, takes i (Job x), got.2, viewed s i TAKEN id (set s.homes i none) w got.3, (refl, (λ _. (x, (refl, refl))), λ miss. absurd (miss hit))))
+      (w, takes i (Job x), got.2, viewed s i TAKEN id (set s.homes i none) w got.3, (refl, (λ _. (x, free_before, (refl, refl))), λ miss. absurd (miss hit))))
       (λ miss. stands s r i id me told at (refl, (λ hit. absurd (miss hit)), λ _. (refl, refl)))
 
   -- a worker's slot is done

@@ -1,5 +1,5 @@
 -- The coordinator's seat while `new` takes the places, from the last slot down to the first.
-use Rattle.std.specs.Prelude.{◌≡◌, ℕ, ◌+◌, ◌-◌, ◌<◌, ◌≤◌, true, [], length, Some, replicate, None}
+use Rattle.std.specs.Prelude.{◌≡◌, ℕ, ◌+◌, ◌-◌, ◌<◌, ◌≤◌, true, false, [], length, Some, replicate, None}
 use mathlib.Core.Option.{some}
 use lib.ListN.{get_elem?}
 use Rattle.cd_ring.specs.declared.view.Note.TheVariants.{Home, Spare}
@@ -12,6 +12,7 @@ pub record IsTakingPlaces {T J D : Type 0} (task : T) (slots left : ℕ) (m : Se
   pub out_is : m.0.known.out ≡ []
   pub taken_is : m.0.known.taken ≡ 0
   pub held_is : m.0.known.held ≡ replicate slots None
+  pub stopped_is : m.0.known.stopped ≡ false
   pub notes_long : length m.0.known.notes ≡ slots
   pub looks_long : length m.0.looks ≡ slots + 1
   pub low : left ≤ slots

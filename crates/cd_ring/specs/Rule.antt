@@ -39,19 +39,24 @@ module _ {T J D : Type 0} where
 
   -- some view, and by the rule only that, holds the slot with the job p
   abbrev pub HeldBy : List (Known T J D) → List J → ℕ → ℕ → ℕ → Type 0
-  HeldBy all posted i p seat = (v : Known T J D) × (x : J) × (get_elem? all seat ≡ some v) × Holds v i x × (get_elem? posted p ≡ some x)
+  HeldBy all posted i p seat = (v : Known T J D) × (x : J) × (get_elem? all seat ≡ some v) × Holds v i x
+      × (get_elem? posted p ≡ some x)
 
   -- what the word and the place of slot i are in a phase, with the coordinator's notes
   abbrev pub Shows : List ℕ → Homes J D → List (Note D) → List (Known T J D) → List J → ℕ → Phase D → Type 0
   Shows words homes notes all posted i free = (slice_index_or words i 0 ≡ FREE)
-      × (((get_elem? notes i ≡ some Home) × (get_elem? homes i ≡ some (some Empty))) ⊎ ((get_elem? notes i ≡ some Spare) × (get_elem? homes i ≡ some none)))
+      × (((get_elem? notes i ≡ some Home) × (get_elem? homes i ≡ some (some Empty)))
+      ⊎ ((get_elem? notes i ≡ some Spare) × (get_elem? homes i ≡ some none)))
   Shows words homes notes all posted i (ready p) = (slice_index_or words i 0 ≡ READY) × (get_elem? notes i ≡ some Home)
       × ((x : J) × (get_elem? posted p ≡ some x) × (get_elem? homes i ≡ some (some (Job x))))
-  Shows words homes notes all posted i (taken p seat) = (slice_index_or words i 0 ≡ TAKEN) × (get_elem? notes i ≡ some Home) × (get_elem? homes i ≡ some none) × HeldBy all posted i p seat
+  Shows words homes notes all posted i (taken p seat) = (slice_index_or words i 0 ≡ TAKEN)
+      × (get_elem? notes i ≡ some Home) × (get_elem? homes i ≡ some none) × HeldBy all posted i p seat
   Shows words homes notes all posted i (done p d) = (slice_index_or words i 0 ≡ DONE)
-      × (((get_elem? notes i ≡ some Home) × (get_elem? homes i ≡ some (some (Result d)))) ⊎ ((get_elem? notes i ≡ some (Met d)) × (get_elem? homes i ≡ some none)))
+      × (((get_elem? notes i ≡ some Home) × (get_elem? homes i ≡ some (some (Result d))))
+      ⊎ ((get_elem? notes i ≡ some (Met d)) × (get_elem? homes i ≡ some none)))
 
-  pub record Rule (meets : J → D → Type 0) (task : T) (slots : ℕ) (words : List ℕ) (homes : Homes J D) (all : List (Known T J D)) : Type 0 where
+  pub record Rule (meets : J → D → Type 0) (task : T) (slots : ℕ)
+      (words : List ℕ) (homes : Homes J D) (all : List (Known T J D)) : Type 0 where
     pub core : Core J D
     pub lead : ℕ
     pub coordinator : Known T J D
@@ -69,9 +74,11 @@ module _ {T J D : Type 0} where
     pub out_is : coordinator.out ≡ drop coordinator.taken core.posted
     pub notes_long : length coordinator.notes ≡ slots
     -- words and places
-    pub shows : (i : ℕ) (f : Phase D) → get_elem? core.phases i ≡ some f → Shows words homes coordinator.notes all core.posted i f
+    pub shows : (i : ℕ) (f : Phase D) → get_elem? core.phases i ≡ some f
+        → Shows words homes coordinator.notes all core.posted i f
     -- where the word is not TAKEN, no view holds the slot
-    pub held : (j : ℕ) (v : Known T J D) (i : ℕ) (x : J) → get_elem? all j ≡ some v → Holds v i x → (p : ℕ) × (get_elem? core.phases i ≡ some (taken p j)) × (get_elem? core.posted p ≡ some x)
+    pub held : (j : ℕ) (v : Known T J D) (i : ℕ) (x : J) → get_elem? all j ≡ some v → Holds v i x
+        → (p : ℕ) × (get_elem? core.phases i ≡ some (taken p j)) × (get_elem? core.posted p ≡ some x)
     pub stop : slice_index_or words slots 0 ≡ 1 → coordinator.stopped ≡ true
 
   -- the rule of the table

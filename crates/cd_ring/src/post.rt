@@ -1,8 +1,11 @@
 //! The coordinator's seat: it posts jobs and takes their results.
-ghost use Rattle.std.specs.Prelude.{◌≡◌, ◌%◌, ◌↔◌, List, [], ◌∷◌, ◌++◌, length, Some, IsTrue, IsErr, OnOk, IfErr};
-ghost use Rattle.cd_ring.specs.Answered.{MatchTaken};
-ghost use Rattle.cd_ring.specs.Kinds.{noted, with_stop, became, set_stop};
+ghost use Rattle.std.specs.Prelude.{◌≡◌, ◌≢◌, ◌+◌, ◌↔◌, true, List, [], ◌∷◌, ◌++◌, length, IsTrue, IsErr, OnOk, IfErr};
+ghost use Rattle.cd_ring.specs.Answered.{MatchTaken, is_empty_answer};
+ghost use Rattle.cd_ring.specs.Claims.{HasNoClaim};
+ghost use Rattle.cd_ring.specs.Kinds.{noted};
 ghost use Rattle.cd_ring.specs.Rule.{TAKEN};
+ghost use Rattle.cd_ring.specs.Words.{task_of, slots_of, room_of, IsPostOf, jobs_out, results_taken};
+ghost use Rattle.cd_ring.specs.Words.{oldest_slot, own_claims, has_stopped, looks_of};
 
 use crate::kinds::SetsStop;
 use crate::ring::{Post, Ring};
@@ -11,38 +14,52 @@ use crate::task::Task;
 /// What `take` answers.
 #[derive(Drop)]
 pub enum Taken<D> {
+    /// The result of the oldest job, which is no longer out.
     Result(D),
+    /// A worker has the oldest job.
     NotYet,
+    /// No job is out.
     Empty,
 }
 
-impl<T: Task + Drop> Post<T> {
-    /// Posts a job, or hands it back where as many jobs are out as there are slots.
+impl<T: Task> Post<T> {
+    /// Posts a job, or hands it back where as many jobs are out as there are slots. Then nothing changes.
     pub fn post(&mut self, ring: &Ring<T>, job: T::Job) -> Result<(), T::Job>
-        requires ring { (self.old.seat.table_id ≡ ring.now.table.shared.table_id) × (self.old.seat.me.0.known.task ≡ Some ring.now.setup.task) }
-        ensures ring { (self.new.seat.table_id ≡ self.old.seat.table_id) × (self.new.seat.me.0.known.task ≡ self.old.seat.me.0.known.task) }
-        ensures ok { OnOk result (self.new.seat.me.0.known.out ≡ self.old.seat.me.0.known.out ++ job ∷ []) }
-        ensures full { IsErr result ↔ (length self.old.seat.me.0.known.out ≡ ring.now.setup.slots) }
-        ensures err { IfErr result (λ back. (back ≡ job) × (self.new.seat.me ≡ self.old.seat.me)) }
+        requires ring { IsPostOf ring.now self.old }
+        ensures ring { IsPostOf ring.now self.new }
+        ensures ok { OnOk result ((jobs_out self.new ≡ jobs_out self.old ++ job ∷ [])
+            × (results_taken self.new ≡ results_taken self.old)) }
+        ensures full { IsErr result ↔ (length (jobs_out self.old) ≡ slots_of ring.now) }
+        ensures err { IfErr result (λ back. (back ≡ job) × (jobs_out self.new ≡ jobs_out self.old)
+            × (results_taken self.new ≡ results_taken self.old)) }
+        ensures looks { looks_of self.new ≡ looks_of self.old }
+        ensures no_claim { HasNoClaim (own_claims self.new) }
+        ensures stop { has_stopped self.new ≡ has_stopped self.old }
     {
         if self.count == self.slots {
             return Err(job);
         }
         let slot = (self.next + self.count) % self.slots;
-        ring.post_job(&mut self.seat, slot, job);
+        ring.mark_ready(&mut self.seat, slot, job);
         self.count += 1;
         Ok(())
     }
 
-    /// Takes the result of the oldest job out.
+    /// Takes the result of the oldest job out. Where that job is READY still, this call claims and performs it.
     pub fn take(&mut self, ring: &Ring<T>) -> Taken<T::Done>
-        requires ring { (self.old.seat.table_id ≡ ring.now.table.shared.table_id) × (self.old.seat.me.0.known.task ≡ Some ring.now.setup.task) }
-        ensures ring { (self.new.seat.table_id ≡ self.old.seat.table_id) × (self.new.seat.me.0.known.task ≡ self.old.seat.me.0.known.task) }
+        requires ring { IsPostOf ring.now self.old }
+        ensures ring { IsPostOf ring.now self.new }
         ensures taken { MatchTaken result
-            (λ done. (job : T.Job) × (self.old.seat.me.0.known.out ≡ job ∷ self.new.seat.me.0.known.out) × T.meets ring.now.setup.task job done)
-            ((self.new.seat.me.0.known ≡ self.old.seat.me.0.known) × (self.new.seat.me.0.looks ≡ noted self.old.seat.me.0.looks (self.old.seat.me.0.known.taken % ring.now.setup.slots) TAKEN))
-            (self.new.seat.me ≡ self.old.seat.me) }
-        ensures empty { MatchTaken result (λ done. self.old.seat.me.0.known.out ≡ [] → ⊥) ((self.old.seat.me.0.known.out ≡ [] → ⊥)) (self.old.seat.me.0.known.out ≡ []) }
+            (λ done. (job : T.Job) × (jobs_out self.old ≡ job ∷ jobs_out self.new) × T.meets (task_of ring.now) job done
+            × (results_taken self.new ≡ results_taken self.old + 1))
+            ((jobs_out self.new ≡ jobs_out self.old) × (results_taken self.new ≡ results_taken self.old)
+            × HasNoClaim (own_claims self.old)
+            × (looks_of self.new ≡ noted (looks_of self.old) (oldest_slot self.old) TAKEN))
+            ((jobs_out self.new ≡ []) × (results_taken self.new ≡ results_taken self.old)
+            × (looks_of self.new ≡ looks_of self.old)) }
+        ensures empty { (is_empty_answer result ≡ true) ↔ (jobs_out self.old ≡ []) }
+        ensures no_claim { HasNoClaim (own_claims self.new) }
+        ensures stop { has_stopped self.new ≡ has_stopped self.old }
     {
         if self.count == 0 {
             return Taken::Empty;
@@ -59,23 +76,28 @@ impl<T: Task + Drop> Post<T> {
         }
     }
 
+    /// Whether as many jobs are out as there are slots.
     pub fn is_full(&self) -> bool
-        ensures { IsTrue result ↔ (length self.now.seat.me.0.known.out ≡ self.now.slots) }
+        ensures { IsTrue result ↔ (length (jobs_out self.now) ≡ room_of self.now) }
     {
         self.count == self.slots
     }
 
+    /// The number of jobs out.
     pub fn jobs_out(&self) -> u32
-        ensures { result ≡ length self.now.seat.me.0.known.out }
+        ensures { result ≡ length (jobs_out self.now) }
     {
         self.count
     }
 
-    /// Sets the stop word.
+    /// Sets the stop word, by which a worker knows that it may end.
     pub fn stop(&mut self, ring: &Ring<T>)
-        requires ring { (self.old.seat.table_id ≡ ring.now.table.shared.table_id) × (self.old.seat.me.0.known.task ≡ Some ring.now.setup.task) }
-        ensures ring { (self.new.seat.table_id ≡ self.old.seat.table_id) × (self.new.seat.me.0.known.task ≡ self.old.seat.me.0.known.task) }
-        ensures stopped { became (with_stop self.old.seat.me.0.known) self.old.seat.me.1 self.old.seat.me self.new.seat.me }
+        requires ring { IsPostOf ring.now self.old }
+        ensures ring { IsPostOf ring.now self.new }
+        ensures stop { has_stopped self.new ≡ true }
+        ensures jobs { (jobs_out self.new ≡ jobs_out self.old) × (results_taken self.new ≡ results_taken self.old) }
+        ensures looks { looks_of self.new ≡ looks_of self.old }
+        ensures no_claim { HasNoClaim (own_claims self.new) }
     {
         ring.table
             .shared

@@ -1,6 +1,6 @@
-//! The ring.
-ghost use Rattle.std.specs.Prelude.{◌≡◌, ◌+◌, ◌<◌, ◌^◌, length};
-ghost use Rattle.cd_ring.specs.Rest.{AtRest};
+//! The ring and its seats.
+ghost use Rattle.std.specs.Prelude.{◌≡◌, ◌+◌, ◌<◌, ◌^◌};
+ghost use Rattle.cd_ring.specs.Rest.{AtRest, IsWorker};
 ghost use Rattle.cd_ring.specs.Rule.{Ring};
 ghost use Rattle.cd_ring.specs.Kinds.{opening_view};
 
@@ -9,7 +9,7 @@ use crate::view::{Place, Setup, View};
 use atomic_table::{Seat, Table, TableRule};
 use std::alloc::Global;
 
-/// The rule of the table.
+/// The rule of the table, which holds between any two steps.
 pub struct Jobs;
 
 impl<T: Task> TableRule<Place<T::Job, T::Done>, View<T, T::Job, T::Done>, Setup<T>> for Jobs {
@@ -18,12 +18,11 @@ impl<T: Task> TableRule<Place<T::Job, T::Done>, View<T, T::Job, T::Done>, Setup<
     ghost first = { λ key. opening_view key.task key.slots };
 }
 
-/// What a thread steps with.
+/// What a thread steps with. It has no bytes.
 pub type RingSeat<T, J, D> = Seat<Place<J, D>, View<T, J, D>>;
 
-/// The slots, which threads share by reference.
-#[derive(Drop)]
-pub struct Ring<T: Task + Drop> {
+/// The slots, which threads share by reference. It ends by `close`, and cannot be dropped.
+pub struct Ring<T: Task> {
     pub(crate) table: Table<
         Place<T::Job, T::Done>,
         View<T, T::Job, T::Done>,
@@ -33,10 +32,11 @@ pub struct Ring<T: Task + Drop> {
     >,
     pub(crate) setup: Setup<T>,
     pub ghost keyed: { table.shared.key ≡ setup },
-    pub ghost sized: { (table.shared.table_id.words ≡ setup.slots + 1) × (table.shared.table_id.slots ≡ setup.slots) × (0 < setup.slots) },
+    pub ghost sized: { (table.shared.table_id.words ≡ setup.slots + 1)
+        × (table.shared.table_id.slots ≡ setup.slots) × (0 < setup.slots) },
 }
 
-/// The coordinator's seat.
+/// The coordinator's seat, with the slot of the oldest job and the number of jobs out.
 #[derive(Drop)]
 pub struct Post<T: Task> {
     pub(crate) seat: RingSeat<T, T::Job, T::Done>,
@@ -51,10 +51,10 @@ pub struct Post<T: Task> {
 #[derive(Drop)]
 pub struct Work<T: Task> {
     pub(crate) seat: RingSeat<T, T::Job, T::Done>,
-    pub ghost lists: { (length seat.me.0.known.held ≡ seat.table_id.slots) × (length seat.me.0.looks ≡ seat.table_id.slots + 1) },
+    pub ghost rest: { IsWorker seat.table_id.slots seat.me },
 }
 
-impl<T: Task + Drop> Ring<T> {
+impl<T: Task> Ring<T> {
     /// The task that `new` took.
     pub fn task(&self) -> &T
         ensures { result.now ≡ self.now.setup.task }

@@ -4,24 +4,26 @@ use Rattle.cd_ring.specs.declared.view.Place.TheVariants.{Empty}
 use Rattle.cd_ring.proofs.Rests.{next_place, posted}
 use Rattle.cd_ring.proofs.ring.Post.post.Goals as goal
 
-pub post_job-requires-clause-turn : goal.post_job-requires-clause-turn
-post_job-requires-clause-turn g c = let s = c.args.self.now in let r = s.rest in let count : ℕ = s.count in let slots : ℕ = s.slots in let within : count ≤ slots = r.within in
+pub mark_ready-requires-clause-next : goal.mark_ready-requires-clause-next
+mark_ready-requires-clause-next g c = let s = c.args.self.now in let r = s.rest in let count : ℕ = s.count in let slots : ℕ = s.slots in let within : count ≤ slots = r.within in
     let room : count < slots = let f = c.if-self.false in omega arith in let i : ℕ = (s.next + s.count) % s.slots in let pl = next_place s.slots s.next s.count s.seat.me r room i refl in
     let same = sym s.sized.0 ∙ ap (λ t. t.slots) c.requires.ring.0 ∙ c.args.ring.now.sized.1 in let q : ℕ = length s.seat.me.0.known.out in (
+      r.leads,
+      pl.1,
       pl.0 ∙ ap₂ (λ (a b : ℕ). (s.seat.me.0.known.taken + a) % b) (sym r.count_is) same,
       subst (λ (z : ℕ). q < z) same (subst (λ (z : ℕ). z < slots) (sym r.count_is) room),
       subst (λ (z : ℕ). i < z) same (mod-lt (s.next + s.count) r.some_slot),
     )
 
-pub post_job-requires-clause-place : goal.post_job-requires-clause-place
-post_job-requires-clause-place g c = let s = c.args.self.now in let r = s.rest in let count : ℕ = s.count in let slots : ℕ = s.slots in let within : count ≤ slots = r.within in
+pub mark_ready-requires-clause-place : goal.mark_ready-requires-clause-place
+mark_ready-requires-clause-place g c = let s = c.args.self.now in let r = s.rest in let count : ℕ = s.count in let slots : ℕ = s.slots in let within : count ≤ slots = r.within in
     let room : count < slots = let f = c.if-self.false in omega arith in let i : ℕ = (s.next + s.count) % s.slots in let pl = next_place s.slots s.next s.count s.seat.me r room i refl in
-    (r.leads, pl.1, pl.2 ∙ ap (λ l. (i, Empty) ∷ l) (sym (ap table.rest pl.2)))
+    pl.2 ∙ ap (λ l. (i, Empty) ∷ l) (sym (ap table.rest pl.2))
 
 pub invariant_of-self : goal.invariant_of-self
 invariant_of-self g c = let s = c.args.self.now in let r = s.rest in let count : ℕ = s.count in let slots : ℕ = s.slots in let within : count ≤ slots = r.within in
     let room : count < slots = let f = c.if-self.false in omega arith in let i : ℕ = (s.next + s.count) % s.slots in let pl = next_place s.slots s.next s.count s.seat.me r room i refl in
-    let gave = c.post_job.ensures.gave in record {
-      rest = posted s.slots s.next s.count s.seat.me c.post_job.new.seat.me i c.args.job r room refl gave.0 gave.1 (gave.2 ∙ ap table.rest pl.2);
-      sized = (ap (λ t. t.slots) c.post_job.ensures.ring.0 ∙ s.sized.0, s.sized.1);
+    let gave = c.mark_ready.ensures.posted in record {
+      rest = posted s.slots s.next s.count s.seat.me c.mark_ready.new.seat.me i c.args.job r room refl gave.0 gave.1 (gave.2 ∙ ap table.rest pl.2);
+      sized = (ap (λ t. t.slots) c.mark_ready.ensures.ring.0 ∙ s.sized.0, s.sized.1);
     }

@@ -1,5 +1,5 @@
 use Rattle.std.proofs.Common.{rules, ℕ, ◌<◌, ap, sym, subst}
-use Rattle.cd_ring.proofs.Harvest.{takes_place}
+use Rattle.cd_ring.proofs.OldestSteps.{takes_place}
 use Rattle.cd_ring.proofs.ring.Ring.take_place.Goals as goal
 
 pub load-requires : goal.load-requires

@@ -7,7 +7,7 @@ pub loop-left-init : goal.loop-left-init
 loop-left-init g c = (refl, refl, takes_first_place _ _ _ c.requires.first)
 
 pub loop-left-preserved : goal.loop-left-preserved
-loop-left-preserved g c = let l = c.loop-left in let left : ℕ = l.left in let some_left : 0 < left = c.loop-left-test.true in let filled = c.take_place.ensures.filled in (
+loop-left-preserved g c = let l = c.loop-left in let left : ℕ = l.left in let some_left : 0 < left = c.loop-left-test.true in let filled = c.take_place.ensures.taken in (
   c.take_place.ensures.ring.0 ∙ l.invariant.0,
   c.take_place.ensures.ring.1 ∙ l.invariant.1,
   takes_one_place c.args.self.now.setup.task c.args.self.now.setup.slots (l.left - 1) l.seat.me c.take_place.new.seat.me

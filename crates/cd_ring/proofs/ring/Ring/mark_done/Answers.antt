@@ -1,10 +1,10 @@
 use Rattle.std.proofs.Common.{rules, ap, sym, subst}
 use Rattle.cd_ring.specs.Rule.{Holds}
 use Rattle.cd_ring.proofs.WordSteps.{finishes}
-use Rattle.cd_ring.proofs.ring.Ring.hand_result.Goals as goal
+use Rattle.cd_ring.proofs.ring.Ring.mark_done.Goals as goal
 
 pub store-requires : goal.store-requires
-store-requires g c = let now = c.exchange.ensures.3 in (
+store-requires g c = let now = c.lay_result.ensures.laid in (
   search rules,
   search rules,
   finishes _ _ _ _ _ _ c.args.slot c.args.job.now c.args.done
