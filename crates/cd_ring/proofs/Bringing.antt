@@ -1,16 +1,14 @@
 -- A worker's load that puts the place of a slot that it holds before its others.
-use Rattle.std.proofs.Common.{◌≡◌, ℕ, zero, suc, ◌<◌, ◌≢◌, Bool, true, false, ◌&&◌, List, [], ◌∷◌, map, length, get_or, set, sym, refl, ap, ap₂, ◌∙◌, subst, ⊎_elim, arith, set-set, length-set, Option, Some, None}
+use Rattle.std.proofs.Common.{◌≡◌, ℕ, zero, suc, ◌<◌, ◌≢◌, Bool, true, false, ◌&&◌, List, [], ◌∷◌, map, length, get_or, set, sym, refl, ap, ap₂, ◌∙◌, subst, ⊎_elim, set-set, Option, Some, None}
 use mathlib.Core.Logic.{dite}
 use mathlib.Core.Option.{none, some, some-injective, some-ne-none}
 use mathlib.Core.Option as maybe
 use native.Mathlib.Decide.{ℕ_discrete}
 use lib.ListN.{get_elem?}
-use Rattle.atomic_table.specs.Table.{State, Act, keeps, takes, gives, chain, Valid, carried_after, homes_after, step, Allows}
+use Rattle.atomic_table.specs.Table.{Act, keeps, takes, gives, chain, Valid, carried_after, homes_after, step, Allows}
 use Rattle.atomic_table.proofs.Lists.{at_set, set_here, set_else, set_again, at_map}
 use Rattle.cd_ring.specs.declared.view.Place.{Place}
 use Rattle.cd_ring.specs.declared.view.Place.TheVariants.{Empty, Job, Result}
-use Rattle.cd_ring.specs.declared.view.Known.{Known}
-use Rattle.cd_ring.specs.declared.view.View.{View}
 use Rattle.cd_ring.specs.Claims.{HasNoClaim, holds_none, is_empty, is_held, are_places_of}
 use Rattle.cd_ring.specs.Core.{taken}
 use Rattle.cd_ring.specs.Rule.{known, Homes, Holds, Ring}

@@ -1,22 +1,19 @@
 -- What the coordinator's look at the oldest job's word does, and its looks before the first post.
-use Rattle.std.proofs.Common.{◌≡◌, ℕ, zero, suc, ◌+◌, ◌%◌, ◌<◌, ◌≤◌, ◌≢◌, eqb, true, false, List, [], ◌∷◌, ◌++◌, map, length, get_or, drop, set, replicate, sym, refl, ap, ◌∙◌, subst, inl, inr, ⊎_elim, arith, mod-lt, length-set, get_or-set_same, get_or-set_other, Some, None}
+use Rattle.std.proofs.Common.{◌≡◌, ℕ, ◌+◌, ◌%◌, ◌<◌, ◌≤◌, eqb, true, List, [], ◌∷◌, map, length, get_or, set, sym, refl, ap, ◌∙◌, subst, inr, ⊎_elim, arith, mod-lt, get_or-set_same, Some}
 use mathlib.Core.Option.{none, some, some-injective, some-ne-none}
-use mathlib.Core.List.{map-append}
-use lib.ListN.{get_elem?, length-map, length-replicate}
-use lib.Seq.{map-set}
+use lib.ListN.{get_elem?}
 use prog.Atomic.{either}
-use Rattle.atomic_table.specs.Table.{State, step, keeps, takes, Allows, Splits, Joins, opening}
-use Rattle.atomic_table.proofs.Lists.{at_set, at_snoc, set_here, set_else, set_again, at_map, at_longer, exchanged}
+use Rattle.atomic_table.specs.Table.{State, step, takes, Allows}
+use Rattle.atomic_table.proofs.Lists.{set_here, exchanged}
 use Rattle.cd_ring.specs.declared.view.Place.{Place}
 use Rattle.cd_ring.specs.declared.view.Place.TheVariants.{Empty, Job, Result}
 use Rattle.cd_ring.specs.declared.view.Note.TheVariants.{Home, Spare, Met}
 use Rattle.cd_ring.specs.declared.view.Known.{Known}
 use Rattle.cd_ring.specs.declared.view.View.{View}
-use Rattle.cd_ring.specs.Core.{Phase, free, ready, taken, done, number, start}
-use Rattle.cd_ring.specs.Rule.{FREE, READY, TAKEN, DONE, known, Homes, Holds, Shows, Rule, Ring}
-use Rattle.cd_ring.specs.Kinds.{opening_view, Seated, with_held, with_note, with_stop, claimed_oldest, took_place, set_stop}
-use Rattle.cd_ring.proofs.Core.{at_inside, at_replicate}
-use Rattle.cd_ring.proofs.Moves.{good, phase_at, shows_stays, held_stays}
+use Rattle.cd_ring.specs.Core.{Phase, free, ready, taken, done, number}
+use Rattle.cd_ring.specs.Rule.{FREE, READY, TAKEN, DONE, known, Shows, Ring}
+use Rattle.cd_ring.specs.Kinds.{Seated, with_held, with_note, claimed_oldest, took_place}
+use Rattle.cd_ring.proofs.Moves.{good, phase_at}
 use Rattle.cd_ring.proofs.WordSteps.{Goes, claim_moved, viewed, stands, seen}
 use Rattle.cd_ring.proofs.CoordinatorSteps.{coordinator_of, out_long, oldest, oldest_phase, noted_moved}
 

@@ -1,24 +1,23 @@
 -- How seats come and go, and how the ring begins and stops.
-use Rattle.std.proofs.Common.{◌≡◌, ℕ, zero, suc, ◌+◌, ◌%◌, ◌<◌, ◌≤◌, ◌≢◌, eqb, true, false, List, [], ◌∷◌, ◌++◌, map, length, get_or, drop, set, replicate, sym, refl, ap, ◌∙◌, subst, inl, inr, ⊎_elim, arith, mod-lt, length-set, get_or-set_same, get_or-set_other, Some, None}
-use mathlib.Core.Option.{none, some, some-injective, some-ne-none}
+use Rattle.std.proofs.Common.{◌≡◌, ℕ, zero, suc, ◌+◌, ◌<◌, ◌≢◌, true, false, List, [], ◌∷◌, ◌++◌, map, length, get_or, drop, set, replicate, sym, refl, ap, ◌∙◌, subst, inl, ⊎_elim, arith, length-set, get_or-set_other, Some, None}
+use mathlib.Core.Option.{some, some-injective, some-ne-none}
 use mathlib.Core.List.{map-append}
 use lib.ListN.{get_elem?, length-map, length-replicate}
 use lib.Seq.{map-set}
-use prog.Atomic.{either}
-use Rattle.atomic_table.specs.Table.{State, step, keeps, takes, Allows, Splits, Joins, opening}
-use Rattle.atomic_table.proofs.Lists.{at_set, at_snoc, set_here, set_else, set_again, at_map, at_longer, exchanged}
+use Rattle.atomic_table.specs.Table.{State, keeps, Allows, Splits, Joins, opening}
+use Rattle.atomic_table.proofs.Lists.{at_set, at_snoc, set_here, set_else, set_again, at_map, at_longer}
 use Rattle.cd_ring.specs.declared.view.Place.{Place}
-use Rattle.cd_ring.specs.declared.view.Place.TheVariants.{Empty, Job, Result}
-use Rattle.cd_ring.specs.declared.view.Note.TheVariants.{Home, Spare, Met}
+use Rattle.cd_ring.specs.declared.view.Place.TheVariants.{Empty}
+use Rattle.cd_ring.specs.declared.view.Note.TheVariants.{Home}
 use Rattle.cd_ring.specs.declared.view.Known.{Known}
 use Rattle.cd_ring.specs.declared.view.View.{View}
-use Rattle.cd_ring.specs.Core.{Phase, free, ready, taken, done, number, start}
-use Rattle.cd_ring.specs.Rule.{FREE, READY, TAKEN, DONE, known, Homes, Holds, Shows, Rule, Ring}
-use Rattle.cd_ring.specs.Kinds.{opening_view, Seated, with_held, with_note, with_stop, claimed_oldest, took_place, set_stop, spent_view}
+use Rattle.cd_ring.specs.Core.{Phase, free, start}
+use Rattle.cd_ring.specs.Rule.{known, Homes, Holds, Shows, Rule, Ring}
+use Rattle.cd_ring.specs.Kinds.{opening_view, Seated, with_stop, set_stop, spent_view}
 use Rattle.cd_ring.proofs.Core.{at_inside, at_replicate}
-use Rattle.cd_ring.proofs.Moves.{good, phase_at, shows_stays, held_stays}
-use Rattle.cd_ring.proofs.WordSteps.{Goes, claim_moved, viewed, stands, seen}
-use Rattle.cd_ring.proofs.CoordinatorSteps.{coordinator_of, out_long, oldest, oldest_phase, noted_moved}
+use Rattle.cd_ring.proofs.Moves.{good, shows_stays, held_stays}
+use Rattle.cd_ring.proofs.WordSteps.{viewed}
+use Rattle.cd_ring.proofs.CoordinatorSteps.{coordinator_of}
 
 module _ {T J D : Type 0} (full : T → J → D → Type 0) (task : T) (slots : ℕ) where
   abbrev S : Type 0

@@ -6,7 +6,6 @@ use Rattle.atomic_table.proofs.Lists.{set_here, set_again}
 use Rattle.cd_ring.specs.declared.view.Place.{Place}
 use Rattle.cd_ring.specs.declared.view.Place.TheVariants.{Empty}
 use Rattle.cd_ring.specs.declared.view.Known.{Known}
-use Rattle.cd_ring.specs.declared.view.Look.{Look}
 use Rattle.cd_ring.specs.declared.view.View.{View}
 use Rattle.cd_ring.specs.declared.work.Claim.{Claim}
 use Rattle.cd_ring.specs.Claims.{holds_none, are_places_of}
