@@ -1,0 +1,12 @@
+pub mod Bringing
+pub mod CoordinatorSteps
+pub mod Core
+pub mod Moves
+pub mod OldestSteps
+pub mod Rests
+pub mod SeatSteps
+pub mod Takes
+pub mod TakingPlaces
+pub mod Turns
+pub mod WordSteps
+pub mod Workers

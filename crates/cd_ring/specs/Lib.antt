@@ -1,0 +1,12 @@
+pub mod Answered
+pub mod Claims
+pub mod Core
+pub mod Found
+pub mod Kinds
+pub mod Opening
+pub mod Rest
+pub mod Rule
+pub mod Shown
+pub mod Turns
+pub mod Walk
+pub mod Words
