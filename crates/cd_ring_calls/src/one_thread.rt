@@ -1,0 +1,72 @@
+//! Histories on one thread.
+use crate::tasks::{Next, is_busy, posts, serve_one, takes};
+use cd_name::List;
+use cd_ring::{Ring, Taken, Task};
+use std::test::Fail;
+
+#[test]
+fn two_slots_and_one_worker(rt: HostRuntime) -> Result<(), Fail> {
+    let (ring, mut post, works) = Ring::new(rt.alloc(), Next, 2, 1)?;
+    let Some(mut work) = works.into_vec().pop() else {
+        panic!(rt; "no worker")
+    };
+    let first_posted = posts(&ring, &mut post, 10);
+    let second_posted = posts(&ring, &mut post, 20);
+    let handed_back = post.post(&ring, 30);
+    assert!(rt; first_posted && second_posted && handed_back == Err(30) && post.is_full());
+    let Some(claim) = work.try_claim(&ring) else {
+        panic!(rt; "no claim")
+    };
+    let right = claim.job == 10 && claim.slot == 0;
+    let busy = is_busy(&ring, &mut post);
+    assert!(rt; right && busy);
+    let done = ring.task().perform(&claim.job);
+    work.finish(&ring, claim, done);
+    let first = takes(&ring, &mut post, 11);
+    let Some(claim) = work.try_claim(&ring) else {
+        panic!(rt; "no second claim")
+    };
+    let right = claim.job == 20 && claim.slot == 1;
+    let busy = is_busy(&ring, &mut post);
+    assert!(rt; first && right && busy);
+    let done = ring.task().perform(&claim.job);
+    work.finish(&ring, claim, done);
+    let second = takes(&ring, &mut post, 21);
+    let Taken::Empty = post.take(&ring) else {
+        panic!(rt; "a job is out")
+    };
+    let served = serve_one(&ring, &mut work);
+    let posted = posts(&ring, &mut post, 40);
+    let performed = takes(&ring, &mut post, 41);
+    assert!(rt; second && !served && posted && performed);
+    post.stop(&ring);
+    let stopped = work.stopped(&ring);
+    assert!(rt; stopped);
+    let Taken::Empty = post.take(&ring) else {
+        panic!(rt; "another job is out")
+    };
+    ring.close(post, List::from_vec(Vec::new(rt.alloc())));
+    Ok(())
+}
+
+#[test]
+fn one_slot_and_no_worker(rt: HostRuntime) -> Result<(), Fail> {
+    let (ring, mut post, works) = Ring::new(rt.alloc(), Next, 1, 0)?;
+    let posted = posts(&ring, &mut post, 7);
+    let full = post.is_full();
+    let taken = takes(&ring, &mut post, 8);
+    assert!(rt; posted && full && taken && post.jobs_out() == 0);
+    post.stop(&ring);
+    let Taken::Empty = post.take(&ring) else {
+        panic!(rt; "a job is out")
+    };
+    ring.close(post, works);
+    Ok(())
+}
+
+#[test]
+fn unused_seats_are_joined(rt: HostRuntime) -> Result<(), Fail> {
+    let (ring, post, works) = Ring::new(rt.alloc(), Next, 4, 3)?;
+    ring.close(post, works);
+    Ok(())
+}
