@@ -1,6 +1,6 @@
 -- What a call for a block answers after the steps that it made.
-use Rattle.std.proofs.Common.{◌≡◌, ℕ, List, [], ◌∷◌, Some, None, Ok, Err, refl, ap, sym, subst, ◌∙◌}
-use Rattle.std.proofs.lemmas.List.{append-nil}
+use Rattle.std.proofs.Common.{◌≡◌, ℕ, ◌+◌, ◌-◌, ◌≤◌, length, drop, arith, List, [], ◌∷◌, Some, None, Ok, Err, refl, ap, sym, subst, ◌∙◌}
+use Rattle.std.proofs.lemmas.List.{append-nil, length-drop}
 use Rattle.cd_block.specs.declared.block.Block.{Block}
 use Rattle.cd_file.specs.declared.refusal.BadFile.{BadFile}
 use Rattle.cd_file.specs.declared.refusal.FileWhy.{FileWhy}
@@ -38,3 +38,8 @@ module _ (now new : Kept) (fed : List ℕ) (given : List Block) (h : StandsFor n
       let stands : StandsFor (record now { refused = Some bad }) fed given =
       subst (λ b. StandsFor (record now { refused = Some b }) fed given) (sym bad_is) (stands_refused now fed given h why none done.1) in
       subst (λ r. Nexts r fed given (Err (fault.Bad bad)) × Tells r fed (Err (fault.Bad bad))) (sym last_is) (tells_again (record now { refused = Some bad }) fed given stands bad refl)
+
+-- the bytes held end within the bytes fed
+pub reader_within : (start at fed_count : ℕ) (bytes : List ℕ) → start ≤ length bytes → at + (length bytes - start) ≤ fed_count →
+    at + length (drop start bytes) ≤ fed_count
+reader_within start at fed_count bytes within counted = omega (arith, length-drop start bytes, within, counted)

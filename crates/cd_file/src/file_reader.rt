@@ -172,6 +172,7 @@ impl FileReader {
         ensures history { (fed : List ℕ) (given : List BlockRead) → StandsFor self.old fed given
             → Feeds self.old self.new (fed ++ piece.now) given result }
         ensures count { OnOk result (self.new.fed_count ≡ self.old.fed_count + length piece.now) }
+        ensures place { OnOk result (self.new.at ≡ self.old.at) }
         ensures err { OnErr result (self.new ≡ self.old) }
         ensures spent { self.old.is_spent ≡ true → IsErr result }
     {
@@ -247,6 +248,7 @@ impl FileReader {
         ensures spent { StaysSpent fault.NoMemory self.old self.new result }
         ensures count { self.new.fed_count ≡ self.old.fed_count }
         ensures moves { MovesOn self.old self.new result }
+        ensures within { self.new.at ≤ self.new.fed_count }
     {
         if self.is_spent {
             return Err(FileFault::NoMemory);

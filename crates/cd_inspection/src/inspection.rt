@@ -48,6 +48,7 @@ impl<I: Inspector> Model for Inspection<I> {
     ghost invariant = { λ m. record {
       small : m.reader.fed_count ≤ 2 ^ 48;
       few : m.block_count ≤ m.reader.at;
+      within : m.reader.at ≤ m.reader.fed_count;
     } };
 }
 

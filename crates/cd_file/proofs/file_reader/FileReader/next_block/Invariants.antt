@@ -1,5 +1,5 @@
 -- Parts that are no block change no history.
-use Rattle.std.proofs.Common.{◌≡◌, ◌≤◌, ℕ, List, length, None, false}
+use Rattle.std.proofs.Common.{◌≡◌, ◌+◌, ◌≤◌, ℕ, List, length, None, false}
 use Rattle.cd_block.specs.declared.block.Block.{Block}
 use Rattle.cd_file.specs.FileReading.{StandsFor}
 use Rattle.cd_file.proofs.file_reader.FileReader.next_block.Given as goal
@@ -12,6 +12,7 @@ invariant-parts l = record {
   same_end : l.self.ended ≡ l.fn.self.ended;
   same_fed : l.self.fed_count ≡ l.fn.self.fed_count;
   far : l.fn.self.at ≤ l.self.at;
+  same_place : l.self.at + length l.self.held ≡ l.fn.self.at + length l.fn.self.held;
 }
 
 abbrev pub decreases-parts : goal.decreases-parts

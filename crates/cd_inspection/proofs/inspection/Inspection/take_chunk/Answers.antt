@@ -7,7 +7,7 @@ use Rattle.cd_inspection.proofs.Taking.{course_begins, stands_then}
 use Rattle.cd_inspection.proofs.inspection.Inspection.take_chunk.Goals as goal
 
 pub invariant_of-self : goal.invariant_of-self
-invariant_of-self g c = rw c.in_err-feed.ensures.unchanged c.self.invariant
+invariant_of-self g c = rw c.in_err-feed.ensures.err c.self.invariant
 
 pub returns-clause-history : goal.returns-clause-history
 returns-clause-history g c = λ fed cleared h.
