@@ -15,7 +15,8 @@ const FIRST: [u8; 19] = [1, 0, 0, 0, 2, 0, 0, 0, 3, 0, 0, 0, 5, 0, 0, 0, 7, 8, 9
 
 // A section header of pcapng.
 const SECTION: [u8; 28] = [
-    0x0a, 0x0d, 0x0d, 0x0a, 28, 0, 0, 0, 0x4d, 0x3c, 0x2b, 0x1a, 1, 0, 0, 0, 255, 255, 255, 255, 255, 255, 255, 255, 28, 0, 0, 0,
+    0x0a, 0x0d, 0x0d, 0x0a, 28, 0, 0, 0, 0x4d, 0x3c, 0x2b, 0x1a, 1, 0, 0, 0, 255, 255, 255, 255,
+    255, 255, 255, 255, 28, 0, 0, 0,
 ];
 
 // 262,145 captured bytes.
@@ -91,7 +92,13 @@ fn read_bytes_are_let_go(rt: HostRuntime) -> Result<(), AllocError> {
 fn the_fourth_byte_tells_the_format(rt: HostRuntime) -> Result<(), AllocError> {
     let mut reader = CaptureReader::new(rt.alloc());
     assert!(rt; feed_any(&mut reader, &SECTION[..3])? == None);
-    assert!(rt; reader.end() == EndState::Bad(BadCapture { at: 0, why: CaptureWhy::Magic }));
+    assert!(rt;
+        reader.end()
+            == EndState::Bad(BadCapture {
+                at: 0,
+                why: CaptureWhy::Magic
+            })
+    );
     assert!(rt; feed_any(&mut reader, &SECTION[3..])? == None);
     assert!(rt; reader.next()?.is_none());
     assert!(rt; reader.end() == EndState::Whole);

@@ -1,12 +1,11 @@
 -- An inspection that was fed nothing.
-use Rattle.std.proofs.Common.{◌≡◌, ℕ, Bool, true, false, List, [], ◌++◌, length, Option, None, refl, ap, sym, ◌∙◌}
+use Rattle.std.proofs.Common.{◌≡◌, false, [], length, None, refl, sym, ◌∙◌}
 use Rattle.cd_file.specs.FileGrowth.{nothing_read}
 use Rattle.cd_file.specs.FileReading as reader
 use Rattle.cd_file.specs.KeptFile.{kept_file, kept_blocks}
-use Rattle.cd_file.specs.ReadFile.{read_file}
 use Rattle.cd_inspection.specs.Growing.{nothing_unrefused}
-use Rattle.cd_inspection.specs.Inspecting.{Rendering, Inspected, inspected, inspected_in}
-use Rattle.cd_inspection.specs.Standing.{InspectionSeen, InspectionStands, so_far, end_of, GoesOn}
+use Rattle.cd_inspection.specs.Inspecting.{Rendering, inspected, inspected_in}
+use Rattle.cd_inspection.specs.Standing.{InspectionSeen, InspectionStands, so_far}
 
 module _ {C : Type 0} (r : Rendering C) (m : InspectionSeen C) where
   none_inspected : m.counts ≡ r.no_counts → m.output ≡ r.begins → so_far m [] ≡ inspected_in r (kept_file [])

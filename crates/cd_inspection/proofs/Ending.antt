@@ -1,10 +1,10 @@
 -- An inspection that stands at a refusal, and one whose bytes end.
-use Rattle.std.proofs.Common.{◌≡◌, ℕ, ◌+◌, Bool, true, false, List, [], ◌++◌, length, Option, Some, None, is_some, refl, ap, sym, ◌∙◌}
+use Rattle.std.proofs.Common.{◌≡◌, ℕ, Bool, true, false, List, ◌++◌, length, Option, Some, None, is_some, refl, ap, sym, ◌∙◌}
 use Rattle.std.proofs.lemmas.Bool.{false≢true}
 use Rattle.cd_block.specs.declared.params.Params.{Params}
 use Rattle.cd_file.specs.FileGrowth.{FilesGrow}
 use Rattle.cd_file.specs.KeptFile.{KeptBlocks, kept_blocks, kept_file, kept_refusal_in, told_kept_refusal}
-use Rattle.cd_file.specs.ReadFile.{FileEnd, Whole, Open, read_file, number_after, refusal_at, told}
+use Rattle.cd_file.specs.ReadFile.{FileEnd, read_file, number_after, refusal_at, told}
 use Rattle.cd_file.specs.declared.refusal.BadFile.{BadFile}
 use Rattle.cd_file.specs.declared.refusal.FileWhy.TheVariants.{Cbor}
 use Rattle.cd_inspection.specs.Growing.{refused_stays}

@@ -1,5 +1,5 @@
 -- What stands after each answer of the reader, in the course of taking blocks.
-use Rattle.std.proofs.Common.{◌≡◌, ℕ, ◌+◌, Bool, true, false, List, [], ◌∷◌, ◌++◌, length, Option, Some, None, Ok, Err, refl, ap, sym, ◌∙◌, append_assoc, length-append, subst}
+use Rattle.std.proofs.Common.{◌≡◌, ℕ, ◌+◌, Bool, true, false, List, [], ◌∷◌, ◌++◌, length, Option, Some, None, Ok, Err, refl, ap, sym, ◌∙◌, append_assoc, length-append}
 use Rattle.cd_block.specs.Resolving.{Unresolved, resolved}
 use Rattle.cd_block.specs.declared.block.Block.{Block}
 use Rattle.cd_block.specs.declared.kept.KeptBlock.{KeptBlock}
@@ -7,13 +7,13 @@ use Rattle.cd_block.specs.declared.params.Params.{Params}
 use Rattle.cd_file.specs.FileGrowth.{Grows, FilesGrow}
 use Rattle.cd_file.specs.FileReading.{Kept, told_params}
 use Rattle.cd_file.specs.FileReading as reader
-use Rattle.cd_file.specs.KeptFile.{KeptBlocks, kept_blocks, kept_in, kept_file, kept_refusal_in, why_unresolved}
-use Rattle.cd_file.specs.ReadFile.{FileRead, FileEnd, Whole, Open, Refused, read_file, number_after, refusal_at, refusal_in}
+use Rattle.cd_file.specs.KeptFile.{KeptBlocks, kept_blocks, kept_file, why_unresolved}
+use Rattle.cd_file.specs.ReadFile.{FileRead, Refused, read_file, number_after, refusal_at, refusal_in}
 use Rattle.cd_file.specs.declared.refusal.BadFile.{BadFile}
 use Rattle.cd_inspection.specs.Growing.{inspected_one, params_stay}
-use Rattle.cd_inspection.specs.Inspecting.{Rendering, Inspected, params_at, with_block, inspected, inspected_more, inspected_in}
+use Rattle.cd_inspection.specs.Inspecting.{Rendering, Inspected, params_at, with_block, inspected}
 use Rattle.cd_inspection.specs.Resolved.{ResolveTo, resolve_more, resolved_count, kept_of_all, kept_before}
-use Rattle.cd_inspection.specs.Standing.{InspectionSeen, end_of, so_far, Course, GoesOn, HasTaken, InspectionStands, with_kept, refused_next}
+use Rattle.cd_inspection.specs.Standing.{InspectionSeen, end_of, so_far, Course, HasTaken, InspectionStands, with_kept, refused_next}
 
 -- a list that has an element is not empty
 some_blocks : (front rest : List Block) (block : Block) (all : List Block) → all ≡ front ++ block ∷ rest → all ≡ [] → ⊥

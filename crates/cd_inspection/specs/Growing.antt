@@ -1,5 +1,5 @@
 -- What an inspection makes of the bytes of a file as they go on.
-use Rattle.std.proofs.Common.{◌≡◌, ℕ, List, [], ◌∷◌, ◌++◌, length, Option, Some, None, refl, ap, sym, ◌∙◌, inl, inr, ◌⊎◌, append_assoc, subst}
+use Rattle.std.proofs.Common.{◌≡◌, ℕ, List, [], ◌∷◌, ◌++◌, Option, Some, None, refl, ap, sym, ◌∙◌, inl, inr, ◌⊎◌, append_assoc, subst}
 use Rattle.std.proofs.lemmas.List.{append-nil}
 use Rattle.std.proofs.lemmas.List.Sums.{fold-append}
 use Rattle.std.specs.List.{fold}
@@ -8,7 +8,7 @@ use Rattle.cd_block.specs.declared.kept.KeptBlock.{KeptBlock}
 use Rattle.cd_block.specs.declared.params.Params.{Params}
 use Rattle.cd_drive.specs.Behaviors.{IsFront}
 use Rattle.cd_file.specs.FileGrowth.{Grows, FilesGrow, nothing_read}
-use Rattle.cd_file.specs.KeptFile.{KeptFile, KeptBlocks, kept_blocks, kept_in, kept_file, kept_refusal_in}
+use Rattle.cd_file.specs.KeptFile.{KeptBlocks, kept_blocks, kept_in, kept_file, kept_refusal_in}
 use Rattle.cd_file.specs.ReadFile.{FileRead, FileEnd, Whole, Open, Refused, read_file, refusal_at}
 use Rattle.cd_file.specs.declared.refusal.FileWhy.{FileWhy}
 use Rattle.cd_file.specs.declared.refusal.BadFile.{BadFile}
@@ -114,6 +114,7 @@ module _ {C : Type 0} (r : Rendering C) where
     where
       Front : Option (List Params) → List KeptBlock → List KeptBlock → Type 0
       Front entries kept more = IsFront (inspected r entries kept).bytes (inspected r entries more).bytes
+
       by_decision : ((kept : List KeptBlock) × ResolveTo now.blocks kept) ⊎ StopsWithin now.blocks → later.params ≡ now.params →
           IsFront (inspected_in r (kept_in now)).bytes (inspected_in r (kept_in later)).bytes
       by_decision (inl all) same =
@@ -126,6 +127,7 @@ module _ {C : Type 0} (r : Rendering C) where
           let same_blocks : (kept_in later).blocks ≡ (kept_in now).blocks =
           ap (λ bs. (kept_blocks bs later.end).0) g.blocks ∙ ap (λ (k : KeptBlocks). k.0) (stops g.rest now.end later.end) in
           rw (same_blocks, same) ([], sym (append-nil _))
+
       by_params : (p : Option (List Params)) → now.params ≡ p → IsFront (inspected_in r (kept_in now)).bytes (inspected_in r (kept_in later)).bytes
       by_params None is =
           let none : (kept_in now).blocks ≡ [] = ap (λ bs. (kept_blocks bs now.end).0) (g.headless is) ∙ no_kept now.end in

@@ -1,13 +1,12 @@
 -- What an inspection makes of bytes is lawful: what is written stays so, and what is refused stays so.
 use Rattle.std.proofs.Common.{◌≡◌, ℕ, List, [], ◌++◌, Option, Some, None, refl, ap, sym, ◌∙◌}
 use Rattle.std.proofs.lemmas.List.{append-nil}
-use Rattle.cd_drive.specs.Behaviors.{IsLawful, IsFront}
+use Rattle.cd_drive.specs.Behaviors.{IsLawful}
 use Rattle.cd_file.specs.FileGrowth.{FilesGrow}
 use Rattle.cd_file.specs.KeptFile.{kept_file, kept_refusal_in}
-use Rattle.cd_file.specs.ReadFile.{read_file}
 use Rattle.cd_file.specs.declared.refusal.BadFile.{BadFile}
 use Rattle.cd_inspection.specs.Growing.{refused_stays, written_grows, nothing_unrefused}
-use Rattle.cd_inspection.specs.Inspecting.{Rendering, inspecting, inspected_in}
+use Rattle.cd_inspection.specs.Inspecting.{Rendering, inspecting}
 
 -- bytes with a front that is refused are refused
 stays_by : (grow : FilesGrow) (xs ys : List ℕ) (o : Option BadFile) → kept_refusal_in (kept_file xs) ≡ o →

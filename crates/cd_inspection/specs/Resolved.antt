@@ -1,10 +1,9 @@
 -- The kept blocks of some blocks, and of more blocks behind them.
-use Rattle.std.proofs.Common.{◌≡◌, ℕ, suc, List, [], ◌∷◌, ◌++◌, length, Ok, Err, refl, ap, sym, ◌∙◌, inl, inr, ◌⊎◌}
-use Rattle.std.proofs.lemmas.List.{append-nil}
+use Rattle.std.proofs.Common.{◌≡◌, suc, List, [], ◌∷◌, ◌++◌, length, Ok, Err, refl, ap, inl, inr, ◌⊎◌}
 use Rattle.cd_block.specs.declared.block.Block.{Block}
 use Rattle.cd_block.specs.declared.kept.KeptBlock.{KeptBlock}
 use Rattle.cd_block.specs.Resolving.{Resolving, Unresolved, resolved}
-use Rattle.cd_file.specs.KeptFile.{KeptBlocks, before_kept, kept_blocks, why_unresolved}
+use Rattle.cd_file.specs.KeptFile.{KeptBlocks, kept_blocks, why_unresolved}
 use Rattle.cd_file.specs.ReadFile.{FileEnd, Refused}
 
 -- these blocks resolve to these

@@ -43,8 +43,12 @@ fn counts_with(counts: ReadCounts, kept: &KeptBlock) -> ReadCounts
 {
     let mut counts = counts;
     counts.blocks = counts.blocks.saturating_add(1);
-    counts.items = counts.items.saturating_add(kept.items.as_slice().len() as u64);
-    counts.malformed = counts.malformed.saturating_add(kept.malformed.as_slice().len() as u64);
+    counts.items = counts
+        .items
+        .saturating_add(kept.items.as_slice().len() as u64);
+    counts.malformed = counts
+        .malformed
+        .saturating_add(kept.malformed.as_slice().len() as u64);
     counts
 }
 

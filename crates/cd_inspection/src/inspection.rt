@@ -215,7 +215,12 @@ impl<I: Inspector> Machine for Inspection<I> {
     }
 
     fn at_end(&self) -> Option<BadFile> {
-        told_refusal(self.is_whole, self.reader.has_head(), self.block_count, self.reader.fed_count())
+        told_refusal(
+            self.is_whole,
+            self.reader.has_head(),
+            self.block_count,
+            self.reader.fed_count(),
+        )
     }
 
     fn output(&self) -> &[u8] {

@@ -1,7 +1,7 @@
 -- Each answer of the reader is a step of the history.
-use Rattle.std.proofs.Common.{◌≡◌, ◌∙◌, [], ◌++◌, Some, None, refl, ap, sym, arith, true, false}
+use Rattle.std.proofs.Common.{◌∙◌, [], ap, true, false}
 use Rattle.cd_file.proofs.FileGrows.{files_grow}
-use Rattle.cd_inspection.specs.Standing.{InspectionSeen, HasTaken}
+use Rattle.cd_inspection.specs.Standing.{InspectionSeen}
 use Rattle.cd_inspection.proofs.Taking.{course_ends, course_refused, course_unresolved, course_more}
 use Rattle.cd_inspection.proofs.inspection.Inspection.take_blocks.Goals as goal
 

@@ -1,5 +1,5 @@
 -- More bytes are read, from where the inspection goes on.
-use Rattle.std.proofs.Common.{◌≡◌, ◌++◌, ◌∙◌, ap, sym, refl, List, ℕ, Option, None, subst}
+use Rattle.std.proofs.Common.{◌++◌, ◌∙◌, ap, refl, Option, None, subst}
 use Rattle.cd_file.specs.declared.refusal.BadFile.{BadFile}
 use Rattle.cd_file.proofs.FileGrows.{files_grow}
 use Rattle.cd_inspection.specs.Standing.{InspectionSeen, HasTaken}

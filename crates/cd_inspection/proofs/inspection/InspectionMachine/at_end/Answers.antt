@@ -1,5 +1,3 @@
-use Rattle.std.proofs.Common.{◌∙◌, ap, sym}
-use Rattle.cd_inspection.specs.Standing.{InspectionSeen}
 use Rattle.cd_inspection.proofs.Ending.{told_at_end}
 use Rattle.cd_inspection.proofs.inspection.InspectionMachine.at_end.Goals as goal
 
