@@ -1,8 +1,9 @@
 //! Records of paired events.
 
-ghost use Rattle.std.specs.Prelude.{◌≡◌, ◌≤◌, IfSome};
+ghost use Rattle.std.specs.Prelude.{◌≡◌, ◌≤◌, true, IfSome};
 ghost use Rattle.std.specs.List.{All};
 ghost use Rattle.cd_hints.specs.Records.{record_parts, HasKinds};
+ghost use Rattle.cd_ident.specs.Keys.{parts_of};
 ghost use Rattle.cd_record.specs.Laws.{IsLight, events_of};
 
 use cd_hints::Rec;
@@ -24,28 +25,40 @@ fn alone(event: Event) -> Option<Rec>
     }
 }
 
+// Whether two events are a query and a response, of which each weighs no more than that of a datagram may.
+fn are_pair(query: &Event, response: &Event) -> bool
+    ensures query { result ≡ true → query.now.kind ≡ Kind.Query }
+    ensures response { result ≡ true → response.now.kind ≡ Kind.Response }
+    ensures light_query { result ≡ true → IsLight (parts_of query.now) }
+    ensures light_response { result ≡ true → IsLight (parts_of response.now) }
+{
+    if query.weight > GREATEST_WEIGHT || response.weight > GREATEST_WEIGHT {
+        return false;
+    }
+    match (query.kind, response.kind) {
+        (Kind::Query, Kind::Response) => true,
+        _ => false,
+    }
+}
+
 // The record of a query and a response, in either order. None where one weighs too much, or they are no such two.
 fn pair(one: Event, other: Event) -> Option<Rec>
     ensures kinds { IfSome result (λ r. HasKinds (record_parts r)) }
     ensures light { IfSome result (λ r. All IsLight (events_of (record_parts r))) }
 {
-    if one.weight > GREATEST_WEIGHT {
-        return None;
-    }
-    if other.weight > GREATEST_WEIGHT {
-        return None;
-    }
-    match (one.kind, other.kind) {
-        (Kind::Query, Kind::Response) => Some(Rec::Pair {
+    if are_pair(&one, &other) {
+        return Some(Rec::Pair {
             query: one,
             response: other,
-        }),
-        (Kind::Response, Kind::Query) => Some(Rec::Pair {
+        });
+    }
+    if are_pair(&other, &one) {
+        return Some(Rec::Pair {
             query: other,
             response: one,
-        }),
-        _ => None,
+        });
     }
+    None
 }
 
 // Takes the event at an index.

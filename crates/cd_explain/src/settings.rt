@@ -1,7 +1,7 @@
 //! Settings, by the names of the options that say them.
 
 use crate::text::{put_field, put_optional};
-use cd_block::Params;
+use cd_block::{Hints, Params};
 use cd_hints::Settings;
 use cd_name::Blob;
 use cd_words::{Command, WordsFault, read_words};
@@ -41,23 +41,35 @@ fn put_types(text: &mut String, types: &[u16]) -> Result<(), AllocError> {
     text.push('\n')
 }
 
-fn put_params(text: &mut String, params: &Params) -> Result<(), AllocError> {
+fn put_limits(text: &mut String, params: &Params) -> Result<(), AllocError> {
     put_field(text, "ticks", &params.ticks)?;
     put_optional(text, "query-timeout", &params.query_ms)?;
     put_optional(text, "skew-timeout", &params.skew_us)?;
-    put_field(text, "block-items", &params.max_items)?;
-    put_field(text, "qr-hints", &params.hints.qr)?;
-    put_field(text, "sig-hints", &params.hints.sig)?;
-    put_field(text, "rr-hints", &params.hints.rr)?;
-    put_field(text, "other-hints", &params.hints.other)?;
-    put_opcodes(text, params.opcodes)?;
-    put_types(text, params.rr_types.as_slice())?;
-    put_field(text, "storage-flags", &params.flags)?;
+    put_field(text, "block-items", &params.max_items)
+}
+
+fn put_hints(text: &mut String, hints: &Hints) -> Result<(), AllocError> {
+    put_field(text, "qr-hints", &hints.qr)?;
+    put_field(text, "sig-hints", &hints.sig)?;
+    put_field(text, "rr-hints", &hints.rr)?;
+    put_field(text, "other-hints", &hints.other)
+}
+
+fn put_prefixes(text: &mut String, params: &Params) -> Result<(), AllocError> {
     let [client4, client6, server4, server6] = params.prefixes;
     put_optional(text, "client-prefix4", &client4)?;
     put_optional(text, "client-prefix6", &client6)?;
     put_optional(text, "server-prefix4", &server4)?;
     put_optional(text, "server-prefix6", &server6)
+}
+
+fn put_params(text: &mut String, params: &Params) -> Result<(), AllocError> {
+    put_limits(text, params)?;
+    put_hints(text, &params.hints)?;
+    put_opcodes(text, params.opcodes)?;
+    put_types(text, params.rr_types.as_slice())?;
+    put_field(text, "storage-flags", &params.flags)?;
+    put_prefixes(text, params)
 }
 
 fn put_settings(text: &mut String, settings: &Settings) -> Result<(), AllocError> {
