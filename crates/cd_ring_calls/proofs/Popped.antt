@@ -1,5 +1,5 @@
 -- What holds of each element of a list holds of the one that is taken off its end, and of the others.
-use Rattle.std.proofs.Common.{◌≡◌, ℕ, ◌<◌, List, [], ◌∷◌, ◌++◌, length, get_or, ◌∙◌, subst, append-nil, Option, Some, None, IfSome, option_to_list, All}
+use Rattle.std.proofs.Common.{◌≡◌, ℕ, ◌<◌, List, ◌++◌, length, get_or, ◌∙◌, subst, append-nil, Option, Some, None, IfSome, option_to_list, All}
 use Rattle.cd_ring.proofs.Workers.{last_holds, others_hold}
 
 pub last_if_some : {A : Type 0} (P : A → Type 0) (old new : List A) (o : Option A) → old ≡ new ++ option_to_list o → All P old → IfSome o P

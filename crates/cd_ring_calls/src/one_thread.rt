@@ -70,3 +70,33 @@ fn unused_seats_are_joined(rt: HostRuntime) -> Result<(), Fail> {
     ring.close(post, works);
     Ok(())
 }
+
+// A worker may finish its claims in whatever order.
+#[test]
+fn claims_are_finished_in_any_order(rt: HostRuntime) -> Result<(), Fail> {
+    let (ring, mut post, works) = Ring::new(rt.alloc(), Next, 2, 1)?;
+    let Some(mut work) = works.into_vec().pop() else {
+        panic!(rt; "no worker")
+    };
+    let first_posted = posts(&ring, &mut post, 1);
+    let second_posted = posts(&ring, &mut post, 2);
+    assert!(rt; first_posted && second_posted);
+    let Some(first) = work.try_claim(&ring) else {
+        panic!(rt; "no first claim")
+    };
+    let Some(second) = work.try_claim(&ring) else {
+        panic!(rt; "no second claim")
+    };
+    let first_done = ring.task().perform(&first.job);
+    let second_done = ring.task().perform(&second.job);
+    work.finish(&ring, first, first_done);
+    work.finish(&ring, second, second_done);
+    let first_taken = takes(&ring, &mut post, 2);
+    let second_taken = takes(&ring, &mut post, 3);
+    assert!(rt; first_taken && second_taken);
+    let Taken::Empty = post.take(&ring) else {
+        panic!(rt; "a job is out")
+    };
+    ring.close(post, List::from_vec(Vec::new(rt.alloc())));
+    Ok(())
+}
