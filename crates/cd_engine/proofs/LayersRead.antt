@@ -57,6 +57,6 @@ pub read_datagram : (port : ℕ) (p : Packet) (d : Datagram) → read_layer port
 unfolding read_layer
 read_datagram port p d is =
     elim (cases_Bool (is_ipv4 p)) [
-      | inl yes ↦ rw yes at is
-      | inr no ↦ absurd (not_skipped d (rw no at is))
+      | inl known ↦ rw known at is
+      | inr other ↦ absurd (not_skipped d (rw other at is))
     ]

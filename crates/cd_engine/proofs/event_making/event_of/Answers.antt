@@ -8,7 +8,7 @@ returns-then-not-is_ethernet_ipv4-clause-event c =
 
 pub returns-in_ok-event-in-Dgram-clause-event : goal.returns-in_ok-event-in-Dgram-clause-event
 returns-in_ok-event-in-Dgram-clause-event c =
-    made c.args.rules.now c.args.packet.now _ _ (c.is_ethernet_ipv4.ensures.0 (sym c.if-not-is_ethernet_ipv4.false)) (sym c.in-Dgram.ensures.found) c.in_ok-event-in-Dgram.ensures.exact c.in-Dgram.ensures.short_payload
+    made c.args.rules.now c.args.packet.now _ _ (c.is_ethernet_ipv4.ensures.0 c.if-not-is_ethernet_ipv4.false) (sym c.in-Dgram.ensures.found) c.in_ok-event-in-Dgram.ensures.exact c.in-Dgram.ensures.short_payload
 
 pub returns-in_ok-event-in-Dgram-clause-weight : goal.returns-in_ok-event-in-Dgram-clause-weight
 returns-in_ok-event-in-Dgram-clause-weight c =
@@ -19,4 +19,4 @@ returns-in_ok-event-in-Dgram-clause-linear c =
     made_linear c.args.rules.now c.args.packet.now _ _ (sym c.in-Dgram.ensures.found) c.in_ok-event-in-Dgram.ensures.exact
 
 pub returns-in-Skip-clause-event : goal.returns-in-Skip-clause-event
-returns-in-Skip-clause-event c = none_made c.args.rules.now c.args.packet.now c.in-Skip.field-0 (c.is_ethernet_ipv4.ensures.0 (sym c.if-not-is_ethernet_ipv4.false)) (sym c.in-Skip.ensures.found)
+returns-in-Skip-clause-event c = none_made c.args.rules.now c.args.packet.now c.in-Skip.field-0 (c.is_ethernet_ipv4.ensures.0 c.if-not-is_ethernet_ipv4.false) (sym c.in-Skip.ensures.found)
