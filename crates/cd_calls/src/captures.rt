@@ -1,6 +1,5 @@
 ghost use Rattle.std.specs.Prelude.{◌≡◌, ◌+◌, ◌≤◌, ◌^◌, length, OnOk};
 
-use cd_capture::CaptureReader;
 use cd_packet::{BadCapture, CaptureWhy, EndState, FeedFault};
 use cd_pcap::PcapReader;
 use std::alloc::{AllocError, Global};
@@ -13,29 +12,11 @@ const HEADER: [u8; 24] = [
 // At 1 s and 2 us: three bytes of five.
 const FIRST: [u8; 19] = [1, 0, 0, 0, 2, 0, 0, 0, 3, 0, 0, 0, 5, 0, 0, 0, 7, 8, 9];
 
-// A section header of pcapng.
-const SECTION: [u8; 28] = [
-    0x0a, 0x0d, 0x0d, 0x0a, 28, 0, 0, 0, 0x4d, 0x3c, 0x2b, 0x1a, 1, 0, 0, 0, 255, 255, 255, 255,
-    255, 255, 255, 255, 28, 0, 0, 0,
-];
-
 // 262,145 captured bytes.
 const TOO_LONG: [u8; 16] = [0, 0, 0, 0, 0, 0, 0, 0, 1, 0, 4, 0, 0, 0, 0, 0];
 
 // Feeds a chunk, and gives the refused place where there is one.
 fn feed(reader: &mut PcapReader, chunk: &[u8]) -> Result<Option<BadCapture>, AllocError>
-    requires { reader.old.fed_count + length chunk.now ≤ 2 ^ 48 }
-    ensures { OnOk result (reader.new.fed_count ≡ reader.old.fed_count + length chunk.now) }
-{
-    match reader.feed(chunk) {
-        Ok(()) => Ok(None),
-        Err(FeedFault::Bad(bad)) => Ok(Some(bad)),
-        Err(FeedFault::NoMemory) => Err(AllocError),
-    }
-}
-
-// The same with a reader of either format.
-fn feed_any(reader: &mut CaptureReader, chunk: &[u8]) -> Result<Option<BadCapture>, AllocError>
     requires { reader.old.fed_count + length chunk.now ≤ 2 ^ 48 }
     ensures { OnOk result (reader.new.fed_count ≡ reader.old.fed_count + length chunk.now) }
 {
@@ -85,22 +66,5 @@ fn read_bytes_are_let_go(rt: HostRuntime) -> Result<(), AllocError> {
         };
         assert!(rt; packet.at == 24 + 19 * index);
     }
-    Ok(())
-}
-
-#[test]
-fn the_fourth_byte_tells_the_format(rt: HostRuntime) -> Result<(), AllocError> {
-    let mut reader = CaptureReader::new(rt.alloc());
-    assert!(rt; feed_any(&mut reader, &SECTION[..3])? == None);
-    assert!(rt;
-        reader.end()
-            == EndState::Bad(BadCapture {
-                at: 0,
-                why: CaptureWhy::Magic
-            })
-    );
-    assert!(rt; feed_any(&mut reader, &SECTION[3..])? == None);
-    assert!(rt; reader.next()?.is_none());
-    assert!(rt; reader.end() == EndState::Whole);
     Ok(())
 }

@@ -15,8 +15,6 @@ mod cbor;
 #[cfg(test)]
 mod driving;
 #[cfg(test)]
-mod files;
-#[cfg(test)]
 mod lists;
 #[cfg(test)]
 mod messages;
