@@ -82,12 +82,16 @@ fn put_settings(text: &mut String, settings: &Settings) -> Result<(), AllocError
     put_field(text, "max-input", &settings.max_input)
 }
 
-/// What the words of a command line say: settings, or the place of the word that breaks a rule.
+/// What the words of a command line say: a command and its settings, or the place of the word that breaks a rule.
 pub fn explain_words(alloc: Global, text: &mut String, words: &[Blob]) -> Result<(), AllocError> {
     match read_words(alloc, words) {
         Ok(Command::Compact(settings)) => {
             text.push_str("compact\n")?;
             put_settings(text, &settings)
+        }
+        Ok(Command::Check { max_input }) => {
+            text.push_str("check\n")?;
+            put_field(text, "max-input", &max_input)
         }
         Err(WordsFault::Usage { place }) => writeln!(text, "usage {place}"),
         Err(WordsFault::NoMemory) => Err(AllocError),

@@ -6,9 +6,12 @@ mod Places
 mod Lines
 mod ValidParts
 mod OptionNames
+mod CheckNames
 mod Decimal
 mod LineOrBreak
 mod SaysOrNot
 mod OptionValues
 mod ValidNumbers
 mod ValidLines
+mod ValidCommands
+mod Commands

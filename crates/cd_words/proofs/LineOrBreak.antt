@@ -6,9 +6,18 @@ use Rattle.std.proofs.lemmas.List.{length-take-le, take_all}
 use Rattle.std.proofs.lemmas.Slice.Eq.{bytes_eq-Decides}
 use Rattle.cd_words.specs.CommandLines.{Language, word_at, HasCommand, IsNamedBefore, NamesOption, SaysValue, IsCommandLine, BreaksAt}
 use Rattle.cd_words.specs.CommandLines.BreaksAt.{no_command, no_name, no_value}
-use Rattle.cd_words.specs.Laws.{BreaksOnce, LinesOrBreaks}
 use Rattle.cd_words.proofs.Places.{first_name, second_name}
 use Rattle.cd_words.proofs.Lines.{name_of_front, value_of_front, first_line, line_more, missing_value}
+
+-- the words break a rule of a language at this place and at no other, and are no command line of it
+pub record BreaksItOnce {C S : Type 0} (language : Language C S) (words : List (List ℕ)) (place : ℕ) : Type 0 where
+  pub here : BreaksAt language words place
+  pub only : (other : ℕ) → BreaksAt language words other → other ≡ place
+  pub outside : ¬ (IsCommandLine language words)
+
+-- words are a command line of a language and break no rule of it, or break one at exactly one place and are none
+abbrev pub LineOrBreak : {C S : Type 0} → Language C S → List (List ℕ) → Type 0
+LineOrBreak language words = (IsCommandLine language words × ((place : ℕ) → ¬ (BreaksAt language words place))) ⊎ ((place : ℕ) × BreaksItOnce language words place)
 
 -- ---- one place
 
@@ -162,11 +171,11 @@ judge language decided (suc steps) words k most within line =
     elim (all_or_longer language decided words k within line) [ inl judged ↦ judged | inr more ↦ judge language decided steps words (k + 1) (omega arith) more.0 more.1 ]
 
 -- words that break a rule at a place
-broken : {C S : Type 0} (language : Language C S) (words : List (List ℕ)) (place : ℕ) → BreaksAt language words place → BreaksOnce language words place
+broken : {C S : Type 0} (language : Language C S) (words : List (List ℕ)) (place : ℕ) → BreaksAt language words place → BreaksItOnce language words place
 broken language words place breaks = record { here = breaks; only = λ other there. one_place language words place other breaks there; outside = λ line. no_break language words place line breaks }
 
 -- the words begin with the command or not
-command_or_not : {C S : Type 0} (language : Language C S) (words : List (List ℕ)) → HasCommand language words ⊎ ¬ (HasCommand language words)
+pub command_or_not : {C S : Type 0} (language : Language C S) (words : List (List ℕ)) → HasCommand language words ⊎ ¬ (HasCommand language words)
 command_or_not language [] = inr (λ command. absurd (omega (arith, command.0)))
 command_or_not language (word ∷ words) = by (bytes_eq word language.command) refl
   where
@@ -175,14 +184,9 @@ command_or_not language (word ∷ words) = by (bytes_eq word language.command) r
     by false e = inr (λ command. false≢true (sym e ∙ (bytes_eq-Decides word language.command).1 command.1))
 
 -- one or the other, at one place, where the language is decided
-pub line_or_break : {C S : Type 0} (language : Language C S) → IsDecided language → LinesOrBreaks language
-line_or_break language decided words = by (command_or_not language words)
-  where
-    each : Judged language words → (IsCommandLine language words × ((place : ℕ) → ¬ (BreaksAt language words place))) ⊎ ((place : ℕ) × BreaksOnce language words place)
-    each (inl line) = inl (line, λ place breaks. no_break language words place line breaks)
-    each (inr breaks) = inr (breaks.0, broken language words breaks.0 breaks.1)
-
-    by : HasCommand language words ⊎ ¬ (HasCommand language words) →
-        (IsCommandLine language words × ((place : ℕ) → ¬ (BreaksAt language words place))) ⊎ ((place : ℕ) × BreaksOnce language words place)
-    by (inl command) = each (judge language decided (length words) words 0 (omega arith) (omega (arith, command.0)) (first_line language words command))
-    by (inr other) = each (inr (0, no_command other))
+pub line_or_break : {C S : Type 0} (language : Language C S) → IsDecided language → (words : List (List ℕ)) → HasCommand language words → LineOrBreak language words
+line_or_break language decided words command =
+    elim (judge language decided (length words) words 0 (omega arith) (omega (arith, command.0)) (first_line language words command)) [
+      | inl line ↦ inl (line, λ place breaks. no_break language words place line breaks)
+      | inr breaks ↦ inr (breaks.0, broken language words breaks.0 breaks.1)
+    ]

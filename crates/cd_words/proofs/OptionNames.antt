@@ -61,7 +61,7 @@ names_none word other = by (find (λ option. bytes_eq word (word_of option)) all
     by (Some option) e = absurd (other option ((bytes_eq-Decides word (word_of option)).0 (found_passes (λ option. bytes_eq word (word_of option)) all_options option e)))
 
 -- what stands after two dashes
-after_dashes : {xs ys : List ℕ} → 45 ∷ 45 ∷ xs ≡ 45 ∷ 45 ∷ ys → xs ≡ ys
+pub after_dashes : {xs ys : List ℕ} → 45 ∷ 45 ∷ xs ≡ 45 ∷ 45 ∷ ys → xs ≡ ys
 after_dashes e = cc
 
 -- a word without two dashes in front names none

@@ -3,13 +3,16 @@ use Rattle.std.proofs.Common.{lit≤, inl, refl}
 use Rattle.std.specs.Prelude.{codes}
 use Rattle.cd_hints.specs.declared.settings.options.NumberOption.TheVariants.{Workers, Ticks, QueryTimeout, SkewTimeout, Window, WindowBytes, BlockItems, BlockBytes, QrHints, SigHints, RrHints, OtherHints, ClientPrefix4, ClientPrefix6, ServerPrefix4, ServerPrefix6, Port, MaxInput}
 use Rattle.cd_hints.specs.declared.settings.options.ListOption.TheVariants.{Opcodes, RrTypes}
+use Rattle.cd_words.specs.declared.check_option.CheckOption.TheVariants as checking
 use Rattle.cd_words.specs.declared.compact_option.CompactOption.TheVariants.{Number, Parts}
 use Rattle.cd_words.specs.Numbers.{number_of}
 use Rattle.cd_words.specs.Parts.{interval_of, part_of, parts_of}
+use Rattle.cd_words.specs.Check.{check}
+use Rattle.cd_words.specs.Compact.{compact}
 use Rattle.cd_words.specs.Laws.{OptionsHaveValues}
 
 -- the least one, or a list of it alone
-pub options_valued : OptionsHaveValues
+pub options_valued : OptionsHaveValues compact
 unfolding number_of parts_of part_of interval_of
 options_valued (Number Workers) = (codes "0", record { least = lit≤ tt; most = lit≤ tt; allowed = tt })
 options_valued (Number Ticks) = (codes "1000000", record { least = lit≤ tt; most = lit≤ tt; allowed = inl refl })
@@ -31,3 +34,8 @@ options_valued (Number Port) = (codes "1", record { least = lit≤ tt; most = li
 options_valued (Number MaxInput) = (codes "0", record { least = lit≤ tt; most = lit≤ tt; allowed = tt })
 options_valued (Parts Opcodes) = (codes "0", refl)
 options_valued (Parts RrTypes) = (codes "0", refl)
+
+-- the least one
+pub check_options_valued : OptionsHaveValues check
+unfolding number_of
+check_options_valued checking.MaxInput = (codes "0", record { least = lit≤ tt; most = lit≤ tt; allowed = tt })

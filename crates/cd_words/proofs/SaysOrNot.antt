@@ -1,4 +1,4 @@
--- A word says a value of an option of `compact` or does not.
+-- A word says a value of an option of a command or does not.
 use Rattle.std.proofs.Common.{◌≡◌, ◌≢◌, ℕ, ◌<◌, ◌≤◌, ◌⊎◌, inl, inr, leb, true, false, List, Option, Some, None, IsSome, IsSomeAnd, refl, arith}
 use Rattle.std.specs.Int.{bit_at}
 use Rattle.std.proofs.lemmas.Bool.{false≢true}
@@ -7,9 +7,11 @@ use Rattle.cd_hints.specs.declared.settings.interval.Interval.{Interval}
 use Rattle.cd_hints.specs.declared.settings.options.NumberOption.{NumberOption}
 use Rattle.cd_hints.specs.declared.settings.options.NumberOption.TheVariants.{Ticks, QrHints, SigHints}
 use Rattle.cd_hints.specs.Options.{Admits, IsAllowed, option_range, list_range}
+use Rattle.cd_words.specs.declared.check_option.CheckOption.{CheckOption}
 use Rattle.cd_words.specs.declared.compact_option.CompactOption.{CompactOption}
 use Rattle.cd_words.specs.declared.compact_option.CompactOption.TheVariants.{Number, Parts}
-use Rattle.cd_words.specs.Numbers.{number_of}
+use Rattle.cd_words.specs.Check.{number_option, CheckSays}
+use Rattle.cd_words.specs.Numbers.{number_of, SaysNumber}
 use Rattle.cd_words.specs.Parts.{parts_of}
 use Rattle.cd_words.specs.Options.{Says}
 
@@ -42,15 +44,23 @@ admits_or_not option n = by (leb_tells (option_range option).least n) (leb_tells
     by (inl least) (inr above) allowed = inr (λ a. absurd (omega (arith, above.1, a.most)))
     by (inr below) most allowed = inr (λ a. absurd (omega (arith, below.1, a.least)))
 
--- a word says a value of an option or not
-pub says_or_not : (option : CompactOption) (word : List ℕ) → Says option word ⊎ ¬ (Says option word)
-says_or_not (Number option) word = by (number_of word)
+-- a word says a number that an option may say or does not
+number_or_not : (option : NumberOption) (word : List ℕ) → SaysNumber option word ⊎ ¬ (SaysNumber option word)
+number_or_not option word = by (number_of word)
   where
     by : (o : Option ℕ) → IsSomeAnd o (Admits option) ⊎ ¬ (IsSomeAnd o (Admits option))
     by None = inr (λ h. h)
     by (Some n) = admits_or_not option n
+
+-- a word says a value of an option of `compact` or not
+pub says_or_not : (option : CompactOption) (word : List ℕ) → Says option word ⊎ ¬ (Says option word)
+says_or_not (Number option) word = number_or_not option word
 says_or_not (Parts option) word = by (parts_of (list_range option) word)
   where
     by : (o : Option (List Interval)) → IsSome o ⊎ ¬ (IsSome o)
     by None = inr (λ h. false≢true h)
     by (Some parts) = inl refl
+
+-- a word says a value of an option of `check` or not
+pub check_says_or_not : (option : CheckOption) (word : List ℕ) → CheckSays option word ⊎ ¬ (CheckSays option word)
+check_says_or_not option word = number_or_not (number_option option) word

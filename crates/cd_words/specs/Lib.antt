@@ -3,6 +3,7 @@ pub mod Parts
 pub mod CommandLines
 pub mod Options
 pub mod Compact
+pub mod Check
 pub mod Faults
 pub mod Commands
 pub mod Laws

@@ -1,5 +1,5 @@
 -- The options of `compact` on a command line.
-use Rattle.std.specs.Prelude.{ℕ, List, [], ◌∷◌, ◌++◌, Option, IsSome, IsSomeAnd, codes}
+use Rattle.std.specs.Prelude.{ℕ, List, [], ◌∷◌, ◌++◌, Option, IsSome, codes}
 use Rattle.std.specs.List.{find}
 use Rattle.std.specs.Str.{bytes_eq}
 use Rattle.cd_hints.specs.declared.settings.options.NumberOption.TheVariants.{Workers, Ticks, QueryTimeout, SkewTimeout}
@@ -9,10 +9,10 @@ use Rattle.cd_hints.specs.declared.settings.options.NumberOption.TheVariants.{Ot
 use Rattle.cd_hints.specs.declared.settings.options.NumberOption.TheVariants.{ServerPrefix4, ServerPrefix6, Port}
 use Rattle.cd_hints.specs.declared.settings.options.NumberOption.TheVariants.{MaxInput}
 use Rattle.cd_hints.specs.declared.settings.options.ListOption.TheVariants.{Opcodes, RrTypes}
-use Rattle.cd_hints.specs.Options.{name_of, list_name_of, list_range, Admits}
+use Rattle.cd_hints.specs.Options.{name_of, list_name_of, list_range}
 use Rattle.cd_words.specs.declared.compact_option.CompactOption.{CompactOption}
 use Rattle.cd_words.specs.declared.compact_option.CompactOption.TheVariants.{Number, Parts}
-use Rattle.cd_words.specs.Numbers.{number_of}
+use Rattle.cd_words.specs.Numbers.{SaysNumber}
 use Rattle.cd_words.specs.Parts.{parts_of}
 
 -- the options of `compact`
@@ -39,5 +39,5 @@ option_named word = find (λ option. bytes_eq word (word_of option)) all_options
 
 -- the word says a value of the option: a number that the option may say, or a list of parts in its range
 abbrev pub Says : CompactOption → List ℕ → Type 0
-Says (Number option) word = IsSomeAnd (number_of word) (Admits option)
+Says (Number option) word = SaysNumber option word
 Says (Parts option) word = IsSome (parts_of (list_range option) word)

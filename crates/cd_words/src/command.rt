@@ -3,6 +3,7 @@
 ghost use Rattle.std.specs.Prelude.{IfOk, IfErr};
 ghost use Rattle.cd_words.specs.Commands.{SaysCommand, HasFault, HasValidSettings};
 
+use crate::check_option::CheckOption;
 use crate::command_line::{begins_with, read_options};
 use crate::compact_option::CompactOption;
 use crate::fault::WordsFault;
@@ -15,6 +16,8 @@ use std::alloc::Global;
 pub enum Command {
     /// To compact a capture into a C-DNS file.
     Compact(Settings),
+    /// To check a C-DNS file, of which at most so many bytes are read.
+    Check { max_input: u64 },
 }
 
 /// The command that the words say, by the language of `docs/FORMATS.md`.
@@ -26,6 +29,10 @@ pub fn read_words(alloc: Global, words: &[Blob]) -> Result<Command, WordsFault>
     if begins_with(words, b"compact") {
         let settings = read_options::<CompactOption>(alloc, words)?;
         return Ok(Command::Compact(settings));
+    }
+    if begins_with(words, b"check") {
+        let max_input = read_options::<CheckOption>(alloc, words)?;
+        return Ok(Command::Check { max_input });
     }
     Err(WordsFault::Usage { place: 0 })
 }

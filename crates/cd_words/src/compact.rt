@@ -8,7 +8,7 @@ ghost use Rattle.cd_words.specs.Compact.{compact, with_value};
 
 use crate::compact_option::{CompactOption, named};
 use crate::language::CommandOption;
-use crate::number::number;
+use crate::number::number_for;
 use crate::parts::parts;
 use crate::setting::put_parts;
 use cd_hints::{Settings, default_settings};
@@ -28,12 +28,12 @@ fn put(
     ensures valid { IsValid settings.old → OnOk result (IsValid settings.new) }
 {
     match option {
-        CompactOption::Number(option) => match number(word) {
-            Some(number) if option.admits(number) => {
+        CompactOption::Number(option) => match number_for(option, word) {
+            Some(number) => {
                 settings.put(option, number);
                 Ok(true)
             }
-            _ => Ok(false),
+            None => Ok(false),
         },
         CompactOption::Parts(option) => match parts(alloc, option.range(), word)? {
             Some(parts) => {

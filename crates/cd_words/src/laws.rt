@@ -1,8 +1,9 @@
 //! Laws of the language: contracts of functions that do nothing.
 
-ghost use Rattle.cd_words.specs.Laws.{NumbersAreDecimal, OptionsHaveNames, OptionsHaveValues, LinesOrBreaks};
-ghost use Rattle.cd_words.specs.Laws.{CommandLinesHaveValidSettings};
+ghost use Rattle.cd_words.specs.Check.{check};
 ghost use Rattle.cd_words.specs.Compact.{compact};
+ghost use Rattle.cd_words.specs.Laws.{NumbersAreDecimal, OptionsHaveNames, CheckOptionsHaveNames, OptionsHaveValues};
+ghost use Rattle.cd_words.specs.Laws.{LinesOrBreaks, CommandsAreOne, CommandsAreValid};
 
 /// A law: bytes are a number exactly where they are what std writes of it. It does nothing.
 pub fn numbers_are_decimal()
@@ -11,20 +12,27 @@ pub fn numbers_are_decimal()
 
 /// A law: the word of each option names this option. It does nothing.
 pub fn options_have_names()
-    ensures { OptionsHaveNames }
+    ensures compact { OptionsHaveNames }
+    ensures check { CheckOptionsHaveNames }
 {}
 
 /// A law: each option has a value that a word says. It does nothing.
 pub fn options_have_values()
-    ensures { OptionsHaveValues }
+    ensures compact { OptionsHaveValues compact }
+    ensures check { OptionsHaveValues check }
 {}
 
-/// A law: words are a command line of `compact`, or break a rule of it at exactly one place. It does nothing.
+/// A law: words are a command line, or break a rule at exactly one place. It does nothing.
 pub fn words_are_a_line_or_break_a_rule()
-    ensures { LinesOrBreaks compact }
+    ensures { LinesOrBreaks }
 {}
 
-/// The settings of a command line are valid.
-pub fn command_lines_have_valid_settings()
-    ensures { CommandLinesHaveValidSettings }
+/// A law: words say at most one command. It does nothing.
+pub fn words_say_at_most_one_command()
+    ensures { CommandsAreOne }
+{}
+
+/// A law: the settings of a command that words say are valid. It does nothing.
+pub fn commands_have_valid_settings()
+    ensures { CommandsAreValid }
 {}

@@ -1,6 +1,7 @@
 //! The words of the command line.
 //!
-//! - A *command line* is a command and its options: `compact --port 53 --opcodes 0,4-6`. Each word is its bytes.
+//! - A *command line* is a command and its options: `compact --port 53 --opcodes 0,4-6`, or `check --max-input 65536`.
+//!   Each word is its bytes.
 //! - An *option* is a name and a value after it, each a word. A value is a number or a list, as `cd_hints` says for the
 //!   option.
 //! - A *list* is parts joined by commas, each a number or two numbers with a dash between them; it is the union of its
@@ -12,6 +13,8 @@
 //! 3-1` that is 2, since a part does not fall. Where a word is missing, it is the number of words.
 #![tactic(auto)]
 
+mod check;
+mod check_option;
 mod command;
 mod command_line;
 mod compact;

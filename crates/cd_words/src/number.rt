@@ -1,7 +1,10 @@
 //! Numbers of the command line.
 
 ghost use Rattle.std.specs.Prelude.{◌≡◌, ◌^◌, ◌≤◌, IfSome, MatchOption, Some};
-ghost use Rattle.cd_words.specs.Numbers.{has_no_leading_zero, number_of};
+ghost use Rattle.cd_hints.specs.Options.{Admits};
+ghost use Rattle.cd_words.specs.Numbers.{has_no_leading_zero, number_of, SaysNumber};
+
+use cd_hints::NumberOption;
 
 // Whether there is a byte, and the first of several is not a 0.
 fn has_no_leading_zero(text: &[u8]) -> bool
@@ -35,4 +38,15 @@ pub fn number(text: &[u8]) -> Option<u64>
         value = next;
     }
     Some(value)
+}
+
+/// The number that a word says, if the option may say it.
+pub fn number_for(option: NumberOption, word: &[u8]) -> Option<u64>
+    ensures { MatchOption result (¬ (SaysNumber option word.now))
+        (λ n. (number_of word.now ≡ Some n) × Admits option n) }
+{
+    match number(word) {
+        Some(number) if option.admits(number) => Some(number),
+        _ => None,
+    }
 }
