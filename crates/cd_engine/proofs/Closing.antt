@@ -1,5 +1,5 @@
 -- The output of a compactor is that of the bytes fed, and so are its counts.
-use Rattle.std.proofs.Common.{◌≡◌, ℕ, Bool, List, ◌++◌, length, Option, None, refl, ap, sym, ◌∙◌, subst}
+use Rattle.std.proofs.Common.{◌≡◌, ℕ, Bool, List, ◌++◌, length, None, ap, sym, ◌∙◌, subst}
 use Rattle.cd_hints.specs.declared.settings.Settings.{Settings}
 use Rattle.cd_ident.specs.Events.{EventParts}
 use Rattle.cd_packet.specs.declared.capture.EndState.{EndState}
@@ -10,7 +10,7 @@ use Rattle.cd_engine.specs.Behaving.{closed_part_of_events, file_of_events, clos
 use Rattle.cd_engine.specs.Blocks.{BlocksSeen, BlocksStand}
 use Rattle.cd_engine.specs.Counting.{is_cut_short, record_counts, counts_of, held_in_64, held_record_counts}
 use Rattle.cd_engine.specs.Events.{rules_of, events_of}
-use Rattle.cd_engine.specs.Refusals.{refusal, refusal_at_end, compacted_packets}
+use Rattle.cd_engine.specs.Refusals.{refusal, compacted_packets}
 use Rattle.cd_engine.specs.Standing.{CompactorSeen, HasCompacted, CompactorStands}
 use Rattle.cd_engine.specs.declared.counts.RecordCounts.{RecordCounts}
 use Rattle.cd_engine.proofs.CountsFit.{counts_known}

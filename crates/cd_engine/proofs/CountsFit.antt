@@ -1,5 +1,5 @@
 -- What is counted of a capture that may be fed fits 64 bits.
-use Rattle.std.proofs.Common.{◌≡◌, ℕ, zero, suc, ◌+◌, ◌*◌, ◌<◌, ◌≤◌, ◌^◌, Bool, true, false, cond, List, [], ◌∷◌, ◌++◌, length, Option, Some, None, Result, Ok, Err, refl, ap, sym, ◌∙◌, arith, inl, inr, length-append, not, filter}
+use Rattle.std.proofs.Common.{◌≡◌, ℕ, ◌+◌, ◌*◌, ◌<◌, ◌≤◌, ◌^◌, Bool, true, false, cond, List, [], ◌∷◌, ◌++◌, length, Option, Some, None, Result, Ok, Err, refl, ap, sym, ◌∙◌, arith, inl, inr, length-append, not}
 use Rattle.std.specs.Prelude.{nat_lt}
 use Rattle.std.specs.List.{sum_by, count_by, filter_map, fold}
 use Rattle.std.specs.Option.{option_map_or}
@@ -14,7 +14,7 @@ use Rattle.cd_ident.specs.Headers.{is_listed, opcode_of}
 use Rattle.cd_ident.specs.declared.event_rules.EventRules.{EventRules}
 use Rattle.cd_message.specs.Messages.{message_of}
 use Rattle.cd_message.specs.Valid.{is_opt}
-use Rattle.cd_message.specs.Weights.{record_weight, weight_of}
+use Rattle.cd_message.specs.Weights.{record_weight}
 use Rattle.cd_message.specs.declared.message.Message.{Message}
 use Rattle.cd_message.specs.declared.message.MsgWhy.{MsgWhy}
 use Rattle.cd_message.specs.declared.message.Rr.{Rr}

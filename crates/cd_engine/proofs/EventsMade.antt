@@ -1,5 +1,5 @@
 -- The event that is made of a packet is the packet's, and weighs what its bytes allow.
-use Rattle.std.proofs.Common.{◌≡◌, ℕ, ◌*◌, ◌≤◌, length, Option, Some, None, refl, ap, sym, ◌∙◌, arith}
+use Rattle.std.proofs.Common.{◌≡◌, ◌*◌, ◌≤◌, length, Some, None, refl, ap, sym, ◌∙◌, arith}
 use Rattle.std.proofs.lemmas.Bool.{le-ltb}
 use Rattle.cd_ident.proofs.WeightBounds.{event_weights_are_bounded, event_weights_are_linear}
 use Rattle.cd_ident.specs.Events.{EventParts, event_parts}

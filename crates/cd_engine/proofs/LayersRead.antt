@@ -1,8 +1,8 @@
 -- Which packets are read, and what they hold.
-use Rattle.std.proofs.Common.{◌≡◌, ℕ, ◌≤◌, ◌&&◌, Bool, true, false, nat_eq, nat_le, length, refl, ap, sym, ◌∙◌, inl, inr}
+use Rattle.std.proofs.Common.{◌≡◌, ℕ, ◌&&◌, true, nat_eq, nat_le, length, refl, inl, inr}
 use Rattle.std.proofs.lemmas.Bool.{and_parts, eqb-true, leb-true, le-leb, cases_Bool}
 use Rattle.cd_bytes.specs.Numbers.{be16}
-use Rattle.cd_packet.specs.Layers.{Datagram, Found, datagram, skipped, layer_of, IsEthernetIpv4}
+use Rattle.cd_packet.specs.Layers.{Datagram, datagram, skipped, layer_of, IsEthernetIpv4}
 use Rattle.cd_packet.specs.declared.packet.Packet.{Packet}
 use Rattle.cd_packet.specs.declared.packet.When.{When}
 use Rattle.cd_packet.specs.declared.packet.When.TheVariants.{At, Outside, Missing}

@@ -15,7 +15,9 @@ pub mod CountsFit
 pub mod Refusing
 pub mod Taking
 pub mod Closing
+pub mod RunsEnd
 pub mod Compacted
+pub mod Checked
 pub mod EventsHave
 pub mod PacketBytes
 pub mod FilesReadBack

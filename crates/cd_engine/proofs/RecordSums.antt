@@ -1,9 +1,9 @@
 -- Each event stands in at most one record, so sums over the records of some events are at most those over the events.
-use Rattle.std.proofs.Common.{◌≡◌, ℕ, zero, suc, ◌+◌, ◌<◌, ◌≤◌, Bool, true, false, cond, List, [], ◌∷◌, ◌++◌, length, map, get_or, set, Option, Some, None, refl, ap, sym, ◌∙◌, subst, arith, inl, inr, ltb}
+use Rattle.std.proofs.Common.{◌≡◌, ℕ, zero, suc, ◌+◌, ◌<◌, ◌≤◌, Bool, true, false, cond, List, [], ◌∷◌, ◌++◌, length, set, Option, Some, None, refl, ap, sym, ◌∙◌, subst, arith, inl, inr, ltb}
 use Rattle.std.specs.Prelude.{slice_get, option_and_then}
 use Rattle.std.specs.List.{sum_by, filter_map}
 use Rattle.std.specs.Option.{option_map}
-use Rattle.std.proofs.lemmas.Bool.{lt-ltb, le-ltb, cases_Bool}
+use Rattle.std.proofs.lemmas.Bool.{lt-ltb, le-ltb}
 use Rattle.std.proofs.lemmas.List.{append-nil, length-map, length-set}
 use Rattle.std.proofs.lemmas.List.Sums.{sum_by-cons, sum_by_push}
 use Rattle.cd_hints.specs.Records.{RecordParts, pair, unmatched_query, unmatched_response, malformed, discarded}
@@ -13,7 +13,7 @@ use Rattle.cd_ident.specs.Keys.{view_of_parts}
 use Rattle.cd_ident.specs.declared.event.Kind.{Kind}
 use Rattle.cd_ident.specs.declared.event.Kind.TheVariants.{Query, Response, Malformed, Discarded}
 use Rattle.cd_pairing.proofs.Finding.{exists, seek, nobody}
-use Rattle.cd_pairing.proofs.Joining.{NoneFits, join_none, join_some, joined}
+use Rattle.cd_pairing.proofs.Joining.{join_none, join_some, joined}
 use Rattle.cd_pairing.proofs.Records.{records-append}
 use Rattle.cd_pairing.proofs.Unique.{unique}
 use Rattle.cd_pairing.specs.Matching.{partner, IsMatching}

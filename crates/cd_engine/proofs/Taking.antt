@@ -1,6 +1,6 @@
 -- How a compactor takes packets and chunks.
-use Rattle.std.proofs.Common.{◌≡◌, ℕ, ◌+◌, ◌<◌, ◌≤◌, ◌^◌, Bool, true, false, cond, List, [], ◌∷◌, ◌++◌, length, map, take, drop, Option, Some, None, is_some, refl, ap, sym, ◌∙◌, arith, inl, inr, append_assoc, length-append, subst, min, nat_eq}
-use Rattle.std.specs.List.{sum_by, count_by}
+use Rattle.std.proofs.Common.{◌≡◌, ℕ, ◌+◌, ◌<◌, ◌≤◌, ◌^◌, true, false, List, [], ◌∷◌, ◌++◌, length, take, drop, Option, Some, None, is_some, refl, ap, sym, ◌∙◌, arith, inl, inr, append_assoc, length-append, subst}
+use Rattle.std.specs.List.{sum_by}
 use Rattle.std.proofs.lemmas.Bool.{cases_lt}
 use Rattle.std.proofs.lemmas.List.{append-nil, length-take, take-append-drop, take_all}
 use Rattle.std.proofs.lemmas.List.Elements.{filter_map-append}
@@ -9,10 +9,7 @@ use Rattle.cd_hints.specs.declared.settings.Settings.{Settings}
 use Rattle.cd_ident.specs.Events.{EventParts}
 use Rattle.cd_ident.specs.Keys.{parts_of}
 use Rattle.cd_ident.specs.declared.event.Event.{Event}
-use Rattle.cd_ident.specs.declared.event.Kind.{Kind}
 use Rattle.cd_ident.specs.declared.event_rules.EventRules.{EventRules}
-use Rattle.cd_packet.specs.Capture.{Capture}
-use Rattle.cd_packet.specs.declared.capture.BadCapture.{BadCapture}
 use Rattle.cd_packet.specs.declared.capture.EndState.{EndState}
 use Rattle.cd_packet.specs.declared.capture.EndState.TheVariants.{Whole, Cut, Bad}
 use Rattle.cd_packet.specs.declared.packet.Packet.{Packet}
@@ -23,13 +20,13 @@ use Rattle.cd_pcap.proofs.Refusals.{packets_before}
 use Rattle.cd_pcap.proofs.Sizes.{packets_within}
 use Rattle.cd_pcap.proofs.Standing.{given_first}
 use Rattle.cd_engine.specs.Blocks.{BlocksSeen, BlocksStand}
-use Rattle.cd_engine.specs.Counting.{packet_counts, packet_counts_with, held_packet_counts, no_packet_counts}
+use Rattle.cd_engine.specs.Counting.{packet_counts_with, no_packet_counts}
 use Rattle.cd_engine.specs.Events.{rules_of, event_of, events_of}
-use Rattle.cd_engine.specs.Refusals.{is_other_format, first_unserved, refusal, refusal_of_end, refusal_after, refusal_of_capture, refusal_at_end, before_refusal, compacted_packets}
+use Rattle.cd_engine.specs.Refusals.{is_other_format, first_unserved, refusal_of_end, refusal_after, refusal_of_capture, refusal_at_end, before_refusal, compacted_packets}
 use Rattle.cd_engine.specs.Standing.{CompactorSeen, HasCompacted, ReadsOn, HasTaken, CompactorStands}
 use Rattle.cd_engine.specs.declared.counts.PacketCounts.{PacketCounts}
 use Rattle.cd_engine.specs.declared.refusal.Refusal.{Refusal}
-use Rattle.cd_engine.specs.declared.refusal.Refusal.TheVariants.{BadCapture as RefusedCapture, NotYet}
+use Rattle.cd_engine.specs.declared.refusal.Refusal.TheVariants.{NotYet}
 use Rattle.cd_engine.proofs.PacketCounting.{packets_more}
 use Rattle.cd_engine.proofs.Refusing.{served-append, packets-few, compacted-at, compacted-few, compacted-other, stays_refused}
 use Rattle.cd_engine.specs.CapturesGo.{packets_go_on, refusal_few, refusal_many, other_stays, at_end_other, at_end_read}

@@ -1,5 +1,5 @@
 -- What `compact_plain` answers, reads and writes.
-use Rattle.std.specs.Prelude.{◌≡◌, ℕ, ◌+◌, ◌-◌, ◌<◌, ◌≤◌, true, false, List, ◌++◌, length, take, None}
+use Rattle.std.specs.Prelude.{◌≡◌, ℕ, ◌-◌, ◌<◌, ◌≤◌, true, false, List, length, take, None}
 use Rattle.std.specs.Io.KnownBytes.{Appends}
 use Rattle.cd_drive.specs.Driving.{Took, AppendsMore, IsTaken}
 use Rattle.cd_hints.specs.declared.settings.Settings.{Settings}
@@ -9,48 +9,28 @@ use Rattle.cd_ports.specs.Reading.{SourceMeaning}
 use Rattle.cd_ports.specs.Writing.{SinkMeaning, AppendsPrefix}
 use Rattle.cd_engine.specs.Compactions.{IsFileOf, IsClosedPartOf}
 use Rattle.cd_engine.specs.Counting.{AreCountsOf, no_counts}
-use Rattle.cd_engine.specs.Endings.{ended_by, IsStopped, EndsAs}
+use Rattle.cd_engine.specs.Endings.{StopsInTime, judging_captures, ended_by, IfStopped, IsStopped, EndsAs}
 use Rattle.cd_engine.specs.Events.{rules_of}
-use Rattle.cd_engine.specs.Refusals.{is_other_format, refusal, first_unserved}
+use Rattle.cd_engine.specs.Refusals.{is_other_format, first_unserved}
 use Rattle.cd_engine.specs.declared.counts.Counts.{Counts}
 use Rattle.cd_engine.specs.declared.ended.Ended.{Ended}
-use Rattle.cd_engine.specs.declared.ended.Ended.TheVariants as ended
 
 -- these bytes were appended, or a prefix of them where a write failed or memory ran out
 abbrev pub Writes : SinkMeaning → SinkMeaning → Ended → List ℕ → Type 0
-Writes old new ended.WriteFault bytes = AppendsPrefix old.contents new.contents bytes
-Writes old new ended.NoMemory bytes = AppendsPrefix old.contents new.contents bytes
-Writes old new ended.Done bytes = Appends old.contents new.contents bytes
-Writes old new (ended.BadCapture b) bytes = Appends old.contents new.contents bytes
-Writes old new ended.ReadFault bytes = Appends old.contents new.contents bytes
-Writes old new ended.TooLong bytes = Appends old.contents new.contents bytes
-Writes old new (ended.NotYet at) bytes = Appends old.contents new.contents bytes
+Writes old new e bytes =
+    IfStopped e (AppendsPrefix old.contents new.contents bytes) (Appends old.contents new.contents bytes)
 
 -- these are the counts of the bytes, or all are 0 where a write failed or memory ran out
 abbrev pub Tells : Settings → List ℕ → Ended → Counts → Type 0
-Tells s bytes ended.WriteFault counts = counts ≡ no_counts
-Tells s bytes ended.NoMemory counts = counts ≡ no_counts
-Tells s bytes ended.Done counts = AreCountsOf s bytes counts
-Tells s bytes (ended.BadCapture b) counts = AreCountsOf s bytes counts
-Tells s bytes ended.ReadFault counts = AreCountsOf s bytes counts
-Tells s bytes ended.TooLong counts = AreCountsOf s bytes counts
-Tells s bytes (ended.NotYet at) counts = AreCountsOf s bytes counts
+Tells s bytes e counts = IfStopped e (counts ≡ no_counts) (AreCountsOf s bytes counts)
 
 -- the bytes that are used of those taken: `max_input` at most
 abbrev pub used_bytes : Settings → List ℕ → List ℕ
 used_bytes s taken = take s.max_input taken
 
--- Reading stops with the chunk that says how the input ends, and at most one byte more than wanted was taken.
-pub record StopsReading (s : Settings) (taken : List ℕ) : Type 0 where
-  pub before : List ℕ
-  pub last : List ℕ
-  pub split : taken ≡ before ++ last
-  -- The buffer of a read has at most 65,536 bytes.
-  pub chunk : length last ≤ 65536
-  -- Nothing ended the input before the last read.
-  pub undecided : refusal (rules_of s) before ≡ None
-  pub within : length before ≤ s.max_input
-  pub few : length taken ≤ s.max_input + 1
+-- reading stops with the chunk that says how the capture ends
+abbrev pub StopsReading : Settings → List ℕ → Type 0
+StopsReading s taken = StopsInTime (judging_captures s) s.max_input taken
 
 -- These bytes were taken, and the answer, the counts and the output are theirs.
 pub record CompactsTaken (s : Settings) (src_new : SourceMeaning) (out_old out_new : SinkMeaning)

@@ -1,5 +1,5 @@
--- What the bytes taken say of how a compaction ends.
-use Rattle.std.specs.Prelude.{◌≡◌, ℕ, ◌⊎◌, Bool, nat_lt, List, length, take, Option, Some, None, if◌then◌else◌, ⊤}
+-- What the bytes taken say of how a compaction or a check of them ends.
+use Rattle.std.specs.Prelude.{◌≡◌, ℕ, ◌+◌, ◌≤◌, ◌⊎◌, Bool, nat_lt, List, ◌++◌, length, take, Option, Some, None, if◌then◌else◌, ⊤}
 use Rattle.cd_drive.specs.declared.driving.Stop.{Stop}
 use Rattle.cd_drive.specs.declared.driving.Stop.TheVariants as stop
 use Rattle.cd_hints.specs.declared.settings.Settings.{Settings}
@@ -8,43 +8,84 @@ use Rattle.cd_engine.specs.Refusals.{refusal, refusal_at_end}
 use Rattle.cd_engine.specs.declared.ended.Ended.{Ended}
 use Rattle.cd_engine.specs.declared.ended.Ended.TheVariants as ended
 use Rattle.cd_engine.specs.declared.refusal.Refusal.{Refusal}
-use Rattle.cd_engine.specs.declared.refusal.Refusal.TheVariants as refused
+use Rattle.cd_engine.specs.declared.refusal.Refusal.TheVariants.{BadCapture, NotYet}
 
--- how a compaction ends by a refusal
-abbrev pub ended_for : Refusal → Ended
-ended_for (refused.BadCapture b) = ended.BadCapture b
-ended_for (refused.NotYet at) = ended.NotYet at
-
--- how a compaction ends by what ended the input
-abbrev pub ended_of : Stop Refusal → Ended
-ended_of stop.Done = ended.Done
-ended_of (stop.Refused refusal) = ended_for refusal
-ended_of stop.TooLong = ended.TooLong
-ended_of stop.ReadFault = ended.ReadFault
+-- How bytes are judged: what they are refused for, and how it ends to be refused so.
+pub record Judging (R : Type 0) : Type 0 where
+  -- what bytes are refused for, whatever follows them
+  pub refused : List ℕ → Option R
+  -- what they are refused for where nothing follows them
+  pub refused_at_end : List ℕ → Option R
+  pub ended_for : R → Ended
 
 -- by a refusal where there is one, else so
-abbrev pub refused_or : Option Refusal → Ended → Ended
-refused_or (Some refusal) other = ended_for refusal
-refused_or None other = other
+abbrev pub refused_as : {R : Type 0} → (R → Ended) → Option R → Ended → Ended
+refused_as ended_for (Some refusal) other = ended_for refusal
+refused_as ended_for None other = other
 
--- How a compaction ends that took these bytes: by what the first `max_input` of them are refused for, else by the byte
--- that is one too many, else as they end where the source told its end, else by a fault of the source.
-abbrev pub ended_by : Settings → List ℕ → Bool → Ended
-ended_by s taken told_end =
-    refused_or (refusal (rules_of s) (take s.max_input taken))
-    (if nat_lt s.max_input (length taken) then ended.TooLong
-    else (if told_end then refused_or (refusal_at_end (rules_of s) taken) ended.Done else ended.ReadFault))
+-- how it ends by what ended the input
+abbrev pub ended_of : {R : Type 0} → (R → Ended) → Stop R → Ended
+ended_of ended_for stop.Done = ended.Done
+ended_of ended_for (stop.Refused refusal) = ended_for refusal
+ended_of ended_for stop.TooLong = ended.TooLong
+ended_of ended_for stop.ReadFault = ended.ReadFault
+
+-- How it ends to take these bytes: by what the first `max` of them are refused for, else by the byte that is one too
+-- many, else as they end where the source told its end, else by a fault of the source.
+abbrev pub ended_in : {R : Type 0} → Judging R → ℕ → List ℕ → Bool → Ended
+ended_in judging max taken told_end =
+    refused_as judging.ended_for (judging.refused (take max taken))
+    (if nat_lt max (length taken) then ended.TooLong
+    else (if told_end then refused_as judging.ended_for (judging.refused_at_end taken) ended.Done else ended.ReadFault))
+
+-- Reading stops with the chunk that says how the input ends, and at most one byte more than wanted was taken.
+pub record StopsInTime {R : Type 0} (judging : Judging R) (max : ℕ) (taken : List ℕ) : Type 0 where
+  pub before : List ℕ
+  pub last : List ℕ
+  pub split : taken ≡ before ++ last
+  -- The buffer of a read has at most 65,536 bytes.
+  pub chunk : length last ≤ 65536
+  -- Nothing ended the input before the last read.
+  pub undecided : judging.refused before ≡ None
+  pub within : length before ≤ max
+  pub few : length taken ≤ max + 1
+
+-- the first where a write failed or memory ran out, else the second
+abbrev pub IfStopped : Ended → Type 0 → Type 0 → Type 0
+IfStopped ended.WriteFault P Q = P
+IfStopped ended.NoMemory P Q = P
+IfStopped ended.Done P Q = Q
+IfStopped (ended.BadCapture b) P Q = Q
+IfStopped (ended.BadFile b) P Q = Q
+IfStopped ended.ReadFault P Q = Q
+IfStopped ended.TooLong P Q = Q
+IfStopped (ended.NotYet at) P Q = Q
 
 -- a write failed, or memory ran out
 abbrev pub IsStopped : Ended → Type 0
-IsStopped ended.WriteFault = ⊤
-IsStopped ended.NoMemory = ⊤
-IsStopped ended.Done = ⊥
-IsStopped (ended.BadCapture b) = ⊥
-IsStopped ended.ReadFault = ⊥
-IsStopped ended.TooLong = ⊥
-IsStopped (ended.NotYet at) = ⊥
+IsStopped e = IfStopped e ⊤ ⊥
 
 -- so, unless a write failed or memory ran out
 abbrev pub EndsAs : Ended → Ended → Type 0
 EndsAs result e = (result ≡ e) ⊎ IsStopped result
+
+-- how a compaction ends by a refusal
+abbrev pub ended_for : Refusal → Ended
+ended_for (BadCapture b) = ended.BadCapture b
+ended_for (NotYet at) = ended.NotYet at
+
+-- how captures are judged under some settings
+abbrev pub judging_captures : Settings → Judging Refusal
+judging_captures s = record {
+  refused = refusal (rules_of s);
+  refused_at_end = refusal_at_end (rules_of s);
+  ended_for = ended_for;
+}
+
+-- a compaction ends by a refusal where there is one, else so
+abbrev pub refused_or : Option Refusal → Ended → Ended
+refused_or o other = refused_as ended_for o other
+
+-- how a compaction ends that took these bytes
+abbrev pub ended_by : Settings → List ℕ → Bool → Ended
+ended_by s taken told_end = ended_in (judging_captures s) s.max_input taken told_end

@@ -1,5 +1,5 @@
 -- The events of a capture.
-use Rattle.std.specs.Prelude.{◌≡◌, ℕ, ◌&&◌, Bool, true, false, nat_lt, nat_le, nat_eq, List, length, Option, Some, None, if◌then◌else◌}
+use Rattle.std.specs.Prelude.{ℕ, ◌&&◌, Bool, true, false, nat_lt, nat_le, nat_eq, List, length, Option, Some, None, if◌then◌else◌}
 use Rattle.std.specs.List.{filter_map}
 use Rattle.cd_bytes.specs.Numbers.{be16}
 use Rattle.cd_hints.specs.declared.settings.Settings.{Settings}

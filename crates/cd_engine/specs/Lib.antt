@@ -5,6 +5,7 @@ pub mod Compactions
 pub mod Counting
 pub mod Endings
 pub mod Compacting
+pub mod Checking
 pub mod Laws
 pub mod Behaving
 pub mod Filing

@@ -5,7 +5,7 @@ ghost use Rattle.std.specs.Io.KnownBytes.{IsAtEnd};
 ghost use Rattle.cd_hints.specs.Validity.{IsValid};
 ghost use Rattle.cd_ports.specs.Counter.{Rose};
 ghost use Rattle.cd_engine.specs.Compacting.{Compacts, CompactsTold, WriteOutranks, IsServedCapture};
-ghost use Rattle.cd_engine.specs.Endings.{ended_of, IsStopped, EndsAs};
+ghost use Rattle.cd_engine.specs.Endings.{ended_for, ended_of, IsStopped, EndsAs};
 
 use crate::compactor::Compactor;
 use crate::counts::{Counts, no_counts};
@@ -18,7 +18,7 @@ use std::alloc::Global;
 
 // How a compaction ends by what ended the input.
 fn ended_of(stop: Stop<Refusal>) -> Ended
-    ensures { result ≡ ended_of stop }
+    ensures { result ≡ ended_of ended_for stop }
 {
     match stop {
         Stop::Done => Ended::Done,

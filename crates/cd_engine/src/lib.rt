@@ -1,4 +1,4 @@
-//! From a capture to its C-DNS file (RFC 8618): `compact_plain`.
+//! From a capture to its C-DNS file (RFC 8618), `compact_plain`, and whether a file is one, `check`.
 //!
 //! - A *capture* comes from a source in chunks. Each packet that holds a datagram from or to the port of DNS is an
 //!   *event*.
@@ -9,12 +9,14 @@
 //!
 //! The way of the data: bytes, packets and their events (`packets`, `event_making`), their records (`blocks`), runs and
 //! blocks (`filing`), the machine of all of them (`compactor`), driven from a source to a sink (`compaction`).
+//! A check drives the machine of `cd_inspection`, which counts the blocks of a file (`checking`).
 //!
 //! Example: a query and its response 20 ms later are one record. Its run is closed at the end of the capture, and the
 //! file holds one block with one item.
 #![tactic(auto)]
 
 mod blocks;
+mod checking;
 mod compaction;
 mod compactor;
 mod counts;
@@ -25,6 +27,8 @@ pub mod laws;
 mod refusal;
 mod settings_copy;
 
+pub use cd_inspection::ReadCounts;
+pub use checking::check;
 pub use compaction::compact_plain;
 pub use counts::Counts;
 pub use ended::Ended;

@@ -1,4 +1,4 @@
-use Rattle.std.proofs.Common.{◌≡◌, ◌<◌, ◌≤◌, ◌∙◌, ◌++◌, true, false, length, ap, sym, arith}
+use Rattle.std.proofs.Common.{◌≡◌, ◌<◌, ◌≤◌, ◌∙◌, ◌++◌, false, length, ap, sym, arith}
 use Rattle.cd_engine.specs.Events.{rules_of}
 use Rattle.cd_engine.specs.Refusals.{is_other_format}
 use Rattle.cd_engine.specs.Standing.{CompactorSeen}
