@@ -1,4 +1,5 @@
-//! Reads a capture from the standard input and writes its C-DNS file to the standard output.
+//! Reads the standard input and writes the standard output, by the command of the command line: a capture is compacted
+//! into its C-DNS file, or a C-DNS file is checked. The report goes to the standard error.
 //!
 //! The words of the command line, the report and the exit status are those of `cd_top`. Where no memory is found for
 //! the words it writes nothing and ends with 6; where a word is not UTF-8 text it writes nothing and ends with 10.

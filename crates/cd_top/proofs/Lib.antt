@@ -1,6 +1,7 @@
 mod Mapping
 mod Refused
-mod Compacted
 mod Unread
 mod Reporting
+mod Compacted
+mod Checked
 mod BrokenWords

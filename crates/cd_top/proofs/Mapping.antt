@@ -1,6 +1,7 @@
--- What the status of a compaction's end says.
-use Rattle.std.proofs.Common.{◌≡◌, refl, ap, sym, ◌∙◌, inl, inr, subst}
+-- What the status of an end says.
+use Rattle.std.proofs.Common.{◌≡◌, ◌⊎◌, refl, ap, sym, ◌∙◌, inl, inr, subst}
 use Rattle.cd_engine.specs.Endings as endings
+use Rattle.cd_engine.specs.Endings.{IfStopped}
 use Rattle.cd_engine.specs.declared.ended.Ended.{Ended}
 use Rattle.cd_engine.specs.declared.ended.Ended.TheVariants as ended
 use Rattle.cd_top.specs.Statuses.{status_of, IsStatusOf, IsStopped, EndsAs, ComesExactly}
@@ -12,6 +13,7 @@ abbrev end_of : Status → Ended
 end_of status.Done = ended.Done
 end_of status.Usage = ended.Done
 end_of (status.BadCapture b) = ended.BadCapture b
+end_of (status.BadFile b) = ended.BadFile b
 end_of status.ReadFault = ended.ReadFault
 end_of status.WriteFault = ended.WriteFault
 end_of status.NoMemory = ended.NoMemory
@@ -21,6 +23,7 @@ end_of (status.NotYet at) = ended.NotYet at
 end_back : (e : Ended) → end_of (status_of e) ≡ e
 end_back ended.Done = refl
 end_back (ended.BadCapture b) = refl
+end_back (ended.BadFile b) = refl
 end_back ended.ReadFault = refl
 end_back ended.WriteFault = refl
 end_back ended.NoMemory = refl
@@ -35,10 +38,11 @@ same_end e f same = sym (end_back e) ∙ ap (λ s. end_of s) same ∙ end_back f
 pub end_is : (r : Status) (e f : Ended) → r ≡ status_of e → r ≡ status_of f → e ≡ f
 end_is r e f is same = same_end e f (sym is ∙ same)
 
--- no compaction ends as a refusal of the words
+-- no end is a refusal of the words
 pub no_usage : (e : Ended) → status_of e ≡ status.Usage → ⊥
 no_usage ended.Done same = absurd cc
 no_usage (ended.BadCapture b) same = absurd cc
+no_usage (ended.BadFile b) same = absurd cc
 no_usage ended.ReadFault same = absurd cc
 no_usage ended.WriteFault same = absurd cc
 no_usage ended.NoMemory same = absurd cc
@@ -66,7 +70,7 @@ not_stopped r e is going h =
 pub usage_goes : (r : Status) → r ≡ status.Usage → IsStopped r → ⊥
 usage_goes r is h = no_usage h.end (sym h.is ∙ is)
 
--- a run ends as its compaction does
+-- a run ends as what it does
 pub ends_mapped : (r : Status) (e f : Ended) → r ≡ status_of e → endings.EndsAs e f → EndsAs r (status_of f)
 ends_mapped r e f is h = elim h [
   | inl same ↦ inl (is ∙ ap (λ x. status_of x) same)
@@ -78,3 +82,70 @@ pub comes_stopped : (r s : Status) (P : Type 0) → r ≡ status.NoMemory → (r
 comes_stopped r s P is other =
     let Q : Status → Type 0 = λ x. IsStopped x in
     record { only = λ same. absurd (other same); always = λ holds. inr (subst Q (sym is) memory_stops) }
+
+-- a write failed, or memory ran out
+pub stopped_is : (r : Status) → IsStopped r → (r ≡ status.WriteFault) ⊎ (r ≡ status.NoMemory)
+stopped_is r h = by h.end h.is h.holds
+  where
+    by : (e : Ended) → r ≡ status_of e → endings.IsStopped e → (r ≡ status.WriteFault) ⊎ (r ≡ status.NoMemory)
+    by ended.WriteFault is halt = inl is
+    by ended.NoMemory is halt = inr is
+    by ended.Done is halt = absurd halt
+    by (ended.BadCapture b) is halt = absurd halt
+    by (ended.BadFile b) is halt = absurd halt
+    by ended.ReadFault is halt = absurd halt
+    by ended.TooLong is halt = absurd halt
+    by (ended.NotYet at) is halt = absurd halt
+
+-- an end is a stop or not
+pub stopped_or_going : (e : Ended) → endings.IsStopped e ⊎ (endings.IsStopped e → ⊥)
+stopped_or_going ended.WriteFault = inl tt
+stopped_or_going ended.NoMemory = inl tt
+stopped_or_going ended.Done = inr (λ halt. halt)
+stopped_or_going (ended.BadCapture b) = inr (λ halt. halt)
+stopped_or_going (ended.BadFile b) = inr (λ halt. halt)
+stopped_or_going ended.ReadFault = inr (λ halt. halt)
+stopped_or_going ended.TooLong = inr (λ halt. halt)
+stopped_or_going (ended.NotYet at) = inr (λ halt. halt)
+
+-- what holds at a stop
+pub at_stop : (e : Ended) (P Q : Type 0) → endings.IsStopped e → IfStopped e P Q → P
+at_stop ended.WriteFault P Q halt h = h
+at_stop ended.NoMemory P Q halt h = h
+at_stop ended.Done P Q halt h = absurd halt
+at_stop (ended.BadCapture b) P Q halt h = absurd halt
+at_stop (ended.BadFile b) P Q halt h = absurd halt
+at_stop ended.ReadFault P Q halt h = absurd halt
+at_stop ended.TooLong P Q halt h = absurd halt
+at_stop (ended.NotYet at) P Q halt h = absurd halt
+
+-- what holds at another end
+pub while_going : (e : Ended) (P Q : Type 0) → (endings.IsStopped e → ⊥) → IfStopped e P Q → Q
+while_going ended.WriteFault P Q going h = absurd (going tt)
+while_going ended.NoMemory P Q going h = absurd (going tt)
+while_going ended.Done P Q going h = h
+while_going (ended.BadCapture b) P Q going h = h
+while_going (ended.BadFile b) P Q going h = h
+while_going ended.ReadFault P Q going h = h
+while_going ended.TooLong P Q going h = h
+while_going (ended.NotYet at) P Q going h = h
+
+pub stopped_so : (e : Ended) (P Q : Type 0) → endings.IsStopped e → P → IfStopped e P Q
+stopped_so ended.WriteFault P Q halt p = p
+stopped_so ended.NoMemory P Q halt p = p
+stopped_so ended.Done P Q halt p = absurd halt
+stopped_so (ended.BadCapture b) P Q halt p = absurd halt
+stopped_so (ended.BadFile b) P Q halt p = absurd halt
+stopped_so ended.ReadFault P Q halt p = absurd halt
+stopped_so ended.TooLong P Q halt p = absurd halt
+stopped_so (ended.NotYet at) P Q halt p = absurd halt
+
+pub going_so : (e : Ended) (P Q : Type 0) → (endings.IsStopped e → ⊥) → Q → IfStopped e P Q
+going_so ended.WriteFault P Q going q = absurd (going tt)
+going_so ended.NoMemory P Q going q = absurd (going tt)
+going_so ended.Done P Q going q = q
+going_so (ended.BadCapture b) P Q going q = q
+going_so (ended.BadFile b) P Q going q = q
+going_so ended.ReadFault P Q going q = q
+going_so ended.TooLong P Q going q = q
+going_so (ended.NotYet at) P Q going q = q

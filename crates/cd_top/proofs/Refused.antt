@@ -1,81 +1,128 @@
 -- Each answer that the bytes taken give comes exactly where they give it.
 use Rattle.std.proofs.Common.{◌≡◌, ℕ, Bool, true, false, cond, List, length, Option, Some, None, refl, ap, sym, ◌∙◌, inl, inr, subst}
-use Rattle.std.specs.Prelude.{nat_lt}
+use Rattle.std.specs.Prelude.{nat_lt, option_map}
 use Rattle.std.proofs.lemmas.Bool.{cases_lt, lt-ltb, le-ltb, le-leb, lt-leb, ltb-true}
 use Rattle.std.proofs.lemmas.List.{take_all}
-use Rattle.cd_engine.specs.Compacting.{used_bytes}
+use Rattle.cd_engine.specs.Checking.{judging_files}
 use Rattle.cd_engine.specs.Endings as endings
-use Rattle.cd_engine.specs.Endings.{refused_or, ended_for, ended_by}
+use Rattle.cd_engine.specs.Endings.{refused_as, ended_for, judging_captures}
 use Rattle.cd_engine.specs.Events.{rules_of}
 use Rattle.cd_engine.specs.Refusals.{refusal, refusal_at_end}
 use Rattle.cd_engine.specs.declared.ended.Ended.{Ended}
 use Rattle.cd_engine.specs.declared.ended.Ended.TheVariants as ended
 use Rattle.cd_engine.specs.declared.refusal.Refusal.{Refusal}
 use Rattle.cd_engine.specs.declared.refusal.Refusal.TheVariants as refused
-use Rattle.cd_hints.specs.declared.settings.Settings.{Settings}
-use Rattle.cd_ident.specs.declared.event_rules.EventRules.{EventRules}
-use Rattle.cd_packet.specs.declared.capture.BadCapture.{BadCapture}
-use Rattle.cd_top.specs.Run.{refusal_used, IsTooLong}
+use Rattle.cd_file.specs.KeptFile.{kept_file}
+use Rattle.cd_file.specs.ReadFile.{FileEnd, Whole, Open, Refused, number_after, refusal_at, told}
+use Rattle.cd_file.specs.declared.refusal.BadFile.{BadFile}
+use Rattle.cd_words.specs.declared.command.Command.{Command}
+use Rattle.cd_words.specs.declared.command.Command.TheVariants.{Compact, Check}
+use Rattle.cd_top.specs.Run.{max_input_of, refused_for, refused_at_end_for, used_bytes, refusal_used, IsTooLong, ended_by}
 use Rattle.cd_top.specs.Statuses.{status_of, EndsAs, ComesExactly}
 use Rattle.cd_top.specs.declared.status.Status.{Status}
 use Rattle.cd_top.specs.declared.status.Status.TheVariants as status
 use Rattle.cd_top.proofs.Mapping.{end_is, not_stopped}
 
--- how a compaction of these bytes ends that are not refused
-abbrev unrefused : Settings → List ℕ → Bool → Ended
-unrefused s taken told_end = cond (nat_lt s.max_input (length taken)) ended.TooLong (cond told_end ended.Done ended.ReadFault)
+-- as refused, else so
+abbrev refused_or : Option Ended → Ended → Ended
+refused_or o other = refused_as (λ e. e) o other
+
+-- how it ends to take so many bytes that are not refused
+abbrev unrefused : Bool → Bool → Ended
+unrefused more told_end = cond more ended.TooLong (cond told_end ended.Done ended.ReadFault)
 
 -- what bytes are refused for at their end they may be refused for before
-judged_once : (rules : EventRules) (bytes : List ℕ) (x : Ended) →
-    refused_or (refusal rules bytes) (refused_or (refusal_at_end rules bytes) x) ≡ refused_or (refusal_at_end rules bytes) x
+judged_once : (c : Command) (bytes : List ℕ) (x : Ended) →
+    refused_or (refused_for c bytes) (refused_or (refused_at_end_for c bytes) x) ≡ refused_or (refused_at_end_for c bytes) x
 unfolding refusal
-judged_once rules bytes x = by (nat_lt (length bytes) 4) (refusal_at_end rules bytes)
+judged_once (Compact s) bytes x = by (nat_lt (length bytes) 4) (refusal_at_end (rules_of s) bytes)
   where
-    by : (few : Bool) (o : Option Refusal) → refused_or (cond few None o) (refused_or o x) ≡ refused_or o x
+    by : (few : Bool) (o : Option Refusal) →
+        refused_or (option_map ended_for (cond few None o)) (refused_or (option_map ended_for o) x) ≡ refused_or (option_map ended_for o) x
     by true o = refl
     by false None = refl
     by false (Some r) = refl
+judged_once (Check max) bytes x =
+    by (number_after (kept_file bytes).params (length (kept_file bytes).blocks)) (length bytes) (kept_file bytes).end
+  where
+    by : (number count : ℕ) (e : FileEnd) →
+        refused_or (option_map judging_files.ended_for (refusal_at number e)) (refused_or (option_map judging_files.ended_for (refusal_at number (told count e))) x)
+        ≡ refused_or (option_map judging_files.ended_for (refusal_at number (told count e))) x
+    by number count Whole = refl
+    by number count Open = refl
+    by number count (Refused why) = refl
 
--- how a compaction ends, by what the bytes used are refused for
-pub ended_used : (s : Settings) (taken : List ℕ) (told_end : Bool) →
-    ended_by s taken told_end ≡ refused_or (refusal_used s taken told_end) (unrefused s taken told_end)
-ended_used s taken told_end =
-    elim (cases_lt s.max_input (length taken)) [
-      | inl more ↦ rw (lt-ltb s.max_input (length taken) more, lt-leb (length taken) s.max_input more) refl
+-- how it ends to take bytes, by what those that are used are refused for
+pub ended_used : (c : Command) (taken : List ℕ) (told_end : Bool) →
+    ended_by c taken told_end ≡ refused_or (refusal_used c taken told_end) (unrefused (nat_lt (max_input_of c) (length taken)) told_end)
+ended_used c taken told_end =
+    elim (cases_lt (max_input_of c) (length taken)) [
+      | inl more ↦ rw (lt-ltb (max_input_of c) (length taken) more, lt-leb (length taken) (max_input_of c) more) refl
       | inr few ↦
-          rw (le-ltb s.max_input (length taken) few, le-leb (length taken) s.max_input few, take_all s.max_input taken few) (by told_end)
+          rw (le-ltb (max_input_of c) (length taken) few, le-leb (length taken) (max_input_of c) few, take_all (max_input_of c) taken few) (by told_end)
     ]
   where
-    by : (t : Bool) → refused_or (refusal (rules_of s) taken) (cond t (refused_or (refusal_at_end (rules_of s) taken) ended.Done) ended.ReadFault)
-        ≡ refused_or (cond t (refusal_at_end (rules_of s) taken) (refusal (rules_of s) taken)) (cond t ended.Done ended.ReadFault)
-    by true = judged_once (rules_of s) taken ended.Done
+    by : (t : Bool) → refused_or (refused_for c taken) (cond t (refused_or (refused_at_end_for c taken) ended.Done) ended.ReadFault)
+        ≡ refused_or (cond t (refused_at_end_for c taken) (refused_for c taken)) (cond t ended.Done ended.ReadFault)
+    by true = judged_once c taken ended.Done
     by false = refl
 
-bad_end : (o : Option Refusal) (more t : Bool) (b : BadCapture) →
-    refused_or o (cond more ended.TooLong (cond t ended.Done ended.ReadFault)) ≡ ended.BadCapture b → o ≡ Some (refused.BadCapture b)
-bad_end None true t b e = absurd cc
-bad_end None false true b e = absurd cc
-bad_end None false false b e = absurd cc
-bad_end (Some (refused.BadCapture c)) more t b e = cc
-bad_end (Some (refused.NotYet at)) more t b e = absurd cc
+-- no refusal is told as too many bytes
+refused_short : (c : Command) (bytes : List ℕ) → refused_for c bytes ≡ Some ended.TooLong → ⊥
+refused_short (Compact s) bytes is = by (refusal (rules_of s) bytes) is
+  where
+    by : (o : Option Refusal) → option_map ended_for o ≡ Some ended.TooLong → ⊥
+    by None is = cc
+    by (Some (refused.BadCapture b)) is = cc
+    by (Some (refused.NotYet at)) is = cc
+refused_short (Check max) bytes is = by (judging_files.refused bytes) is
+  where
+    by : (o : Option BadFile) → option_map judging_files.ended_for o ≡ Some ended.TooLong → ⊥
+    by None is = cc
+    by (Some b) is = cc
 
-not_yet_end : (o : Option Refusal) (more t : Bool) (at : ℕ) →
-    refused_or o (cond more ended.TooLong (cond t ended.Done ended.ReadFault)) ≡ ended.NotYet at → o ≡ Some (refused.NotYet at)
-not_yet_end None true t at e = absurd cc
-not_yet_end None false true at e = absurd cc
-not_yet_end None false false at e = absurd cc
-not_yet_end (Some (refused.BadCapture c)) more t at e = absurd cc
-not_yet_end (Some (refused.NotYet other)) more t at e = cc
+refused_at_end_short : (c : Command) (bytes : List ℕ) → refused_at_end_for c bytes ≡ Some ended.TooLong → ⊥
+refused_at_end_short (Compact s) bytes is = by (refusal_at_end (rules_of s) bytes) is
+  where
+    by : (o : Option Refusal) → option_map ended_for o ≡ Some ended.TooLong → ⊥
+    by None is = cc
+    by (Some (refused.BadCapture b)) is = cc
+    by (Some (refused.NotYet at)) is = cc
+refused_at_end_short (Check max) bytes is = by (judging_files.refused_at_end bytes) is
+  where
+    by : (o : Option BadFile) → option_map judging_files.ended_for o ≡ Some ended.TooLong → ⊥
+    by None is = cc
+    by (Some b) is = cc
 
-too_long_end : (o p : Option Refusal) (more t : Bool) →
+-- an end that is that of a refusal
+pub record IsRefusal (e : Ended) : Type 0 where
+  pub short : e ≡ ended.TooLong → ⊥
+  pub undone : e ≡ ended.Done → ⊥
+  pub unfailed : e ≡ ended.ReadFault → ⊥
+  pub going : endings.IsStopped e → ⊥
+
+pub capture_refusal : (b : _) → IsRefusal (ended.BadCapture b)
+capture_refusal b = record { short = λ is. cc; undone = λ is. cc; unfailed = λ is. cc; going = λ halt. halt }
+
+pub file_refusal : (b : _) → IsRefusal (ended.BadFile b)
+file_refusal b = record { short = λ is. cc; undone = λ is. cc; unfailed = λ is. cc; going = λ halt. halt }
+
+pub not_yet_refusal : (at : ℕ) → IsRefusal (ended.NotYet at)
+not_yet_refusal at = record { short = λ is. cc; undone = λ is. cc; unfailed = λ is. cc; going = λ halt. halt }
+
+refused_end : (o : Option Ended) (more t : Bool) (e : Ended) → IsRefusal e → refused_or o (unrefused more t) ≡ e → o ≡ Some e
+refused_end None true t e kind is = absurd (kind.short (sym is))
+refused_end None false true e kind is = absurd (kind.undone (sym is))
+refused_end None false false e kind is = absurd (kind.unfailed (sym is))
+refused_end (Some x) more t e kind is = ap (λ y. Some y) is
+
+too_long_end : (o p : Option Ended) (more t : Bool) → (o ≡ Some ended.TooLong → ⊥) → (p ≡ Some ended.TooLong → ⊥) →
     refused_or o (cond more ended.TooLong (cond t (refused_or p ended.Done) ended.ReadFault)) ≡ ended.TooLong → (o ≡ None) × (more ≡ true)
-too_long_end None p true t e = (refl, refl)
-too_long_end None None false true e = absurd cc
-too_long_end None (Some (refused.BadCapture b)) false true e = absurd cc
-too_long_end None (Some (refused.NotYet at)) false true e = absurd cc
-too_long_end None p false false e = absurd cc
-too_long_end (Some (refused.BadCapture b)) p more t e = absurd cc
-too_long_end (Some (refused.NotYet at)) p more t e = absurd cc
+too_long_end None p true t no_o no_p e = (refl, refl)
+too_long_end None None false true no_o no_p e = absurd cc
+too_long_end None (Some x) false true no_o no_p e = absurd (no_p (ap (λ y. Some y) e))
+too_long_end None p false false no_o no_p e = absurd cc
+too_long_end (Some x) p more t no_o no_p e = absurd (no_o (ap (λ y. Some y) e))
 
 -- a status comes exactly where the end that it is of does
 end_comes : (r : Status) (end e : Ended) → EndsAs r (status_of end) → (endings.IsStopped e → ⊥) → ComesExactly r (status_of e) (end ≡ e)
@@ -91,34 +138,27 @@ end_comes r end e ends going = record {
 comes_also : (r s : Status) (P Q : Type 0) → ComesExactly r s P → (P → Q) → (Q → P) → ComesExactly r s Q
 comes_also r s P Q h to from = record { only = λ same. to (h.only same); always = λ q. h.always (from q) }
 
-pub bad_capture_comes : (r : Status) (s : Settings) (taken : List ℕ) (told_end : Bool) (b : BadCapture) → EndsAs r (status_of (ended_by s taken told_end)) →
-    ComesExactly r (status.BadCapture b) (refusal_used s taken told_end ≡ Some (refused.BadCapture b))
-bad_capture_comes r s taken told_end b ends =
-    let used = ended_used s taken told_end in
-    comes_also r (status.BadCapture b) (ended_by s taken told_end ≡ ended.BadCapture b) _
-    (end_comes r (ended_by s taken told_end) (ended.BadCapture b) ends (λ halt. halt))
-    (λ is. bad_end (refusal_used s taken told_end) (nat_lt s.max_input (length taken)) told_end b (sym used ∙ is))
-    (λ refused. used ∙ ap (λ o. refused_or o (unrefused s taken told_end)) refused)
-
-pub not_yet_comes : (r : Status) (s : Settings) (taken : List ℕ) (told_end : Bool) (at : ℕ) → EndsAs r (status_of (ended_by s taken told_end)) →
-    ComesExactly r (status.NotYet at) (refusal_used s taken told_end ≡ Some (refused.NotYet at))
-not_yet_comes r s taken told_end at ends =
-    let used = ended_used s taken told_end in
-    comes_also r (status.NotYet at) (ended_by s taken told_end ≡ ended.NotYet at) _
-    (end_comes r (ended_by s taken told_end) (ended.NotYet at) ends (λ halt. halt))
-    (λ is. not_yet_end (refusal_used s taken told_end) (nat_lt s.max_input (length taken)) told_end at (sym used ∙ is))
-    (λ refused. used ∙ ap (λ o. refused_or o (unrefused s taken told_end)) refused)
+-- a refusal comes exactly where the bytes used are refused so
+pub refused_comes : (r : Status) (c : Command) (taken : List ℕ) (told_end : Bool) (e : Ended) → IsRefusal e →
+    EndsAs r (status_of (ended_by c taken told_end)) → ComesExactly r (status_of e) (refusal_used c taken told_end ≡ Some e)
+refused_comes r c taken told_end e kind ends =
+    let used = ended_used c taken told_end in
+    comes_also r (status_of e) (ended_by c taken told_end ≡ e) _
+    (end_comes r (ended_by c taken told_end) e ends kind.going)
+    (λ is. refused_end (refusal_used c taken told_end) (nat_lt (max_input_of c) (length taken)) told_end e kind (sym used ∙ is))
+    (λ refused. used ∙ ap (λ o. refused_or o (unrefused (nat_lt (max_input_of c) (length taken)) told_end)) refused)
 
 -- bytes whose front is not refused, with one byte too many
-too_long_ends : (s : Settings) (taken : List ℕ) (told_end : Bool) → IsTooLong s taken → ended_by s taken told_end ≡ ended.TooLong
-too_long_ends s taken told_end h = rw (h.accepted, lt-ltb s.max_input (length taken) h.more) refl
+too_long_ends : (c : Command) (taken : List ℕ) (told_end : Bool) → IsTooLong c taken → ended_by c taken told_end ≡ ended.TooLong
+too_long_ends c taken told_end h = rw (h.accepted, lt-ltb (max_input_of c) (length taken) h.more) refl
 
-pub too_long_comes : (r : Status) (s : Settings) (taken : List ℕ) (told_end : Bool) → EndsAs r (status_of (ended_by s taken told_end)) →
-    ComesExactly r status.TooLong (IsTooLong s taken)
-too_long_comes r s taken told_end ends =
-    comes_also r status.TooLong (ended_by s taken told_end ≡ ended.TooLong) _
-    (end_comes r (ended_by s taken told_end) ended.TooLong ends (λ halt. halt))
+pub too_long_comes : (r : Status) (c : Command) (taken : List ℕ) (told_end : Bool) → EndsAs r (status_of (ended_by c taken told_end)) →
+    ComesExactly r status.TooLong (IsTooLong c taken)
+too_long_comes r c taken told_end ends =
+    comes_also r status.TooLong (ended_by c taken told_end ≡ ended.TooLong) _
+    (end_comes r (ended_by c taken told_end) ended.TooLong ends (λ halt. halt))
     (λ is.
-    let k = too_long_end (refusal (rules_of s) (used_bytes s taken)) (refusal_at_end (rules_of s) taken) (nat_lt s.max_input (length taken)) told_end is in
-    record { more = ltb-true s.max_input (length taken) k.1; accepted = k.0 })
-    (too_long_ends s taken told_end)
+    let k = too_long_end (refused_for c (used_bytes c taken)) (refused_at_end_for c taken) (nat_lt (max_input_of c) (length taken)) told_end
+    (refused_short c (used_bytes c taken)) (refused_at_end_short c taken) is in
+    record { more = ltb-true (max_input_of c) (length taken) k.1; accepted = k.0 })
+    (too_long_ends c taken told_end)

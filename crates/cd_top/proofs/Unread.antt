@@ -1,15 +1,18 @@
 -- What holds of a run that took no byte and wrote none.
 use Rattle.std.proofs.Common.{◌≡◌, ℕ, List, [], ◌++◌, length, Option, Some, None, refl, ap, sym, ◌∙◌, arith, length-append}
+use Rattle.std.specs.Io.KnownBytes.{Consumes}
+use Rattle.std.specs.Prelude.{option_map}
 use Rattle.std.proofs.lemmas.List.{append-nil}
 use Rattle.cd_drive.specs.Driving.{IsTaken}
-use Rattle.cd_engine.specs.Compacting.{StopsReading}
-use Rattle.cd_engine.specs.Events.{rules_of}
+use Rattle.cd_engine.specs.Checking.{judging_files}
 use Rattle.cd_engine.specs.Refusals.{refusal}
 use Rattle.cd_engine.specs.declared.ended.Ended.TheVariants as ended
-use Rattle.cd_hints.specs.declared.settings.Settings.{Settings}
-use Rattle.cd_ident.specs.declared.event_rules.EventRules.{EventRules}
+use Rattle.cd_inspection.specs.Growing.{nothing_unrefused}
 use Rattle.cd_ports.specs.Reading.{SourceMeaning}
 use Rattle.cd_ports.specs.Writing.{SinkMeaning, AppendsPrefix}
+use Rattle.cd_words.specs.declared.command.Command.{Command}
+use Rattle.cd_words.specs.declared.command.Command.TheVariants.{Compact, Check}
+use Rattle.cd_top.specs.Run.{StopsReading, refused_for}
 use Rattle.cd_top.specs.Statuses.{Writes}
 use Rattle.cd_top.specs.declared.status.Status.TheVariants as status
 
@@ -17,18 +20,31 @@ use Rattle.cd_top.specs.declared.status.Status.TheVariants as status
 pub none_taken : (src : SourceMeaning) (bytes : List ℕ) → src.left ≡ Some bytes → IsTaken src src []
 none_taken src bytes told = record { left = bytes; before = told; now = told }
 
-none_refused : (rules : EventRules) → refusal rules [] ≡ None
+-- what was consumed was taken, where the source told what is left
+pub consumed_is_taken : (old new : SourceMeaning) (bytes taken : List ℕ) → old.left ≡ Some bytes → Consumes old.left new.left taken → IsTaken old new taken
+consumed_is_taken old new bytes taken told consumed =
+    let rest = by old.left new.left told consumed in
+    record { left = rest.0; before = rest.1; now = rest.2 }
+  where
+    by : (o n : Option (List ℕ)) → o ≡ Some bytes → Consumes o n taken → (left : List ℕ) × (o ≡ Some (taken ++ left)) × (n ≡ Some left)
+    by None n is h = absurd cc
+    by (Some xs) None is h = absurd h
+    by (Some xs) (Some ys) is h = (ys, ap (λ x. Some x) h, refl)
+
+-- no byte is refused
+none_refused : (c : Command) → refused_for c [] ≡ None
 unfolding refusal
-none_refused rules = refl
+none_refused (Compact s) = refl
+none_refused (Check max) = ap (λ o. option_map judging_files.ended_for o) nothing_unrefused
 
 -- to take nothing is to stop in time
-pub none_stops : (s : Settings) → StopsReading s []
-none_stops s = record {
+pub none_stops : (c : Command) → StopsReading c []
+none_stops c = record {
   before = [];
   last = [];
   split = refl;
   chunk = omega arith;
-  undecided = none_refused (rules_of s);
+  undecided = none_refused c;
   within = omega arith;
   few = omega arith;
 }

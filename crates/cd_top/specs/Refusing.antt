@@ -1,22 +1,19 @@
 -- What a run answers to words that are no command line, and its report on them.
 use Rattle.std.specs.Prelude.{◌≡◌, ℕ, List, [], ◌∷◌, ◌++◌, codes}
 use Rattle.std.specs.Fmt.{decimal}
-use Rattle.std.specs.Io.KnownBytes.{Appends}
 use Rattle.cd_ports.specs.Reading.{SourceMeaning}
-use Rattle.cd_ports.specs.Writing.{SinkMeaning, AppendsPrefix}
+use Rattle.cd_ports.specs.Writing.{SinkMeaning}
 use Rattle.cd_top.specs.declared.status.Status.{Status}
 use Rattle.cd_top.specs.declared.status.Status.TheVariants as status
-use Rattle.cd_top.specs.Statuses.{IsStopped, EndsAs}
+use Rattle.cd_top.specs.Reports.{TellsReport}
 
 -- the report on words that break a rule at this place
 abbrev pub usage_text : ℕ → List ℕ
 usage_text place = codes "usage " ++ decimal place ++ 10 ∷ []
 
--- the place is reported, or a prefix of the report is written where a write failed or memory ran out
-pub record Refuses (place : ℕ) (report_old report_new : SinkMeaning) (result : Status) : Type 0 where
-  pub ends : EndsAs result status.Usage
-  pub whole : result ≡ status.Usage → Appends report_old.contents report_new.contents (usage_text place)
-  pub front : IsStopped result → AppendsPrefix report_old.contents report_new.contents (usage_text place)
+-- the place is reported
+abbrev pub Refuses : ℕ → SinkMeaning → SinkMeaning → Status → Type 0
+Refuses place report_old report_new result = TellsReport report_old report_new result status.Usage (usage_text place)
 
 -- The words break a rule at this place: nothing is read or written but the report, which says the place.
 pub record RefusesWords (place : ℕ) (src_old src_new : SourceMeaning)

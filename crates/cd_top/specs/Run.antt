@@ -1,31 +1,67 @@
 -- What a run does over the bytes that it took.
-use Rattle.std.specs.Prelude.{◌≡◌, ℕ, ◌<◌, ◌&&◌, nat_le, Bool, List, length, Option, None, if◌then◌else◌}
+use Rattle.std.specs.Prelude.{◌≡◌, ℕ, ◌<◌, ◌&&◌, nat_le, Bool, List, length, take, Option, None, option_map, if◌then◌else◌}
 use Rattle.cd_drive.specs.Driving.{IsTaken}
-use Rattle.cd_engine.specs.Compacting.{used_bytes}
-use Rattle.cd_engine.specs.Events.{rules_of}
-use Rattle.cd_engine.specs.Refusals.{refusal, refusal_at_end}
-use Rattle.cd_engine.specs.declared.refusal.Refusal.{Refusal}
-use Rattle.cd_hints.specs.declared.settings.Settings.{Settings}
+use Rattle.cd_engine.specs.Checking.{judging_files}
+use Rattle.cd_engine.specs.Endings.{Judging, StopsInTime, ended_in, ended_for, judging_captures}
+use Rattle.cd_engine.specs.declared.ended.Ended.{Ended}
+use Rattle.cd_engine.specs.declared.ended.Ended.TheVariants as ended
+use Rattle.cd_ports.specs.Counter.{Rose}
 use Rattle.cd_ports.specs.Reading.{SourceMeaning}
-use Rattle.cd_words.specs.Compact.{compact}
-use Rattle.cd_words.specs.CommandLines.{IsCommandLine, settings_of}
+use Rattle.cd_words.specs.Commands.{SaysCommand}
+use Rattle.cd_words.specs.declared.command.Command.{Command}
+use Rattle.cd_words.specs.declared.command.Command.TheVariants.{Compact, Check}
 
--- The words are a command line that says these settings, and the call took these bytes from a source that tells what is
--- left.
-pub record RunsOver (words : List (List ℕ)) (src_old src_new : SourceMeaning) (s : Settings) (taken : List ℕ) : Type 0 where
-  pub line : IsCommandLine compact words
-  pub settings : settings_of compact words ≡ s
+-- how many bytes of the input a command uses at most
+abbrev pub max_input_of : Command → ℕ
+max_input_of (Compact settings) = settings.max_input
+max_input_of (Check max_input) = max_input
+
+-- what bytes are refused for by a command, whatever follows them, as how it ends: as a capture, or as a C-DNS file
+abbrev pub refused_for : Command → List ℕ → Option Ended
+refused_for (Compact settings) bytes = option_map ended_for ((judging_captures settings).refused bytes)
+refused_for (Check max_input) bytes = option_map judging_files.ended_for (judging_files.refused bytes)
+
+-- what they are refused for where nothing follows them
+abbrev pub refused_at_end_for : Command → List ℕ → Option Ended
+refused_at_end_for (Compact settings) bytes = option_map ended_for ((judging_captures settings).refused_at_end bytes)
+refused_at_end_for (Check max_input) bytes = option_map judging_files.ended_for (judging_files.refused_at_end bytes)
+
+-- how a command judges bytes
+abbrev pub judging_of : Command → Judging Ended
+judging_of c = record { refused = refused_for c; refused_at_end = refused_at_end_for c; ended_for = λ e. e }
+
+-- The words say this command, and the call took these bytes from a source that tells what is left.
+pub record RunsOver (words : List (List ℕ)) (src_old src_new : SourceMeaning) (c : Command) (taken : List ℕ) : Type 0 where
+  pub says : SaysCommand words c
   pub took : IsTaken src_old src_new taken
+
+-- the bytes that are used of those taken: `max_input` at most
+abbrev pub used_bytes : Command → List ℕ → List ℕ
+used_bytes c taken = take (max_input_of c) taken
 
 -- What the bytes used are refused for: whatever follows them; or, where these are all and the source told their end,
 -- since nothing does.
-abbrev pub refusal_used : Settings → List ℕ → Bool → Option Refusal
-refusal_used s taken told_end =
-    if nat_le (length taken) s.max_input && told_end
-    then refusal_at_end (rules_of s) (used_bytes s taken)
-    else refusal (rules_of s) (used_bytes s taken)
+abbrev pub refusal_used : Command → List ℕ → Bool → Option Ended
+refusal_used c taken told_end =
+    if nat_le (length taken) (max_input_of c) && told_end
+    then refused_at_end_for c (used_bytes c taken)
+    else refused_for c (used_bytes c taken)
 
 -- a byte past `max_input` was taken, and those before it are not refused
-pub record IsTooLong (s : Settings) (taken : List ℕ) : Type 0 where
-  pub more : s.max_input < length taken
-  pub accepted : refusal (rules_of s) (used_bytes s taken) ≡ None
+pub record IsTooLong (c : Command) (taken : List ℕ) : Type 0 where
+  pub more : max_input_of c < length taken
+  pub accepted : refused_for c (used_bytes c taken) ≡ None
+
+-- how it ends to take these bytes, where the source told their end or did not
+abbrev pub ended_by : Command → List ℕ → Bool → Ended
+ended_by c taken told_end = ended_in (judging_of c) (max_input_of c) taken told_end
+
+-- reading stops with the chunk that says how the input ends
+abbrev pub StopsReading : Command → List ℕ → Type 0
+StopsReading c taken = StopsInTime (judging_of c) (max_input_of c) taken
+
+-- Nothing ended the input: the bytes taken are neither refused nor too many, and the source neither told its end nor
+-- failed.
+pub record IsUnended (c : Command) (src_old src_new : SourceMeaning) (taken : List ℕ) : Type 0 where
+  pub goes_on : ended_by c taken src_new.ended ≡ ended.ReadFault
+  pub unfailed : ¬ (Rose src_old.faults src_new.faults)

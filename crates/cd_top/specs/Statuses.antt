@@ -9,10 +9,11 @@ use Rattle.cd_engine.specs.declared.ended.Ended.TheVariants as ended
 use Rattle.cd_top.specs.declared.status.Status.{Status}
 use Rattle.cd_top.specs.declared.status.Status.TheVariants as status
 
--- the status of a run whose compaction ended so
+-- the status of a run that ended so
 abbrev pub status_of : Ended → Status
 status_of ended.Done = status.Done
 status_of (ended.BadCapture b) = status.BadCapture b
+status_of (ended.BadFile b) = status.BadFile b
 status_of ended.ReadFault = status.ReadFault
 status_of ended.WriteFault = status.WriteFault
 status_of ended.NoMemory = status.NoMemory
@@ -38,7 +39,7 @@ pub record ComesExactly (result s : Status) (P : Type 0) : Type 0 where
   pub only : result ≡ s → P
   pub always : P → EndsAs result s
 
--- the run ended as a compaction that appended these bytes, or a prefix of them where a write failed or memory ran out
+-- the run appended these bytes, or a prefix of them where a write failed or memory ran out
 abbrev pub Writes : SinkMeaning → SinkMeaning → Status → List ℕ → Type 0
 Writes old new result bytes = IsStatusOf (λ end. compacting.Writes old new end bytes) result
 
@@ -56,6 +57,7 @@ abbrev pub code_of : Status → ℕ
 code_of status.Done = 0
 code_of status.Usage = 1
 code_of (status.BadCapture b) = 2
+code_of (status.BadFile b) = 3
 code_of status.ReadFault = 4
 code_of status.WriteFault = 5
 code_of status.NoMemory = 6

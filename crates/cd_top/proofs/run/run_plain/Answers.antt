@@ -1,38 +1,117 @@
-use Rattle.std.proofs.Common.{[], rules, arith, refl, inr}
+use Rattle.std.proofs.Common.{[], arith, refl, inr}
+use Rattle.cd_engine.specs.declared.ended.Ended.TheVariants as ended
+use Rattle.cd_words.specs.declared.command.Command.TheVariants.{Compact, Check}
 use Rattle.cd_top.specs.declared.status.Status.TheVariants as status
-use Rattle.cd_top.proofs.BrokenWords.{refused_words, refused_spent}
-use Rattle.cd_top.proofs.Compacted.{run_ends, run_writes}
+use Rattle.cd_top.proofs.BrokenWords.{broken_is_no_line, broken_says_none, says_as, refused_words, refused_spent}
+use Rattle.cd_top.proofs.Checked.{told_ends_as, told_end_is, check_ends, check_reports, check_unended, check_takes, check_completes, done_goes, whole_as_said}
+use Rattle.cd_top.proofs.Compacted.{run_ends, compact_takes}
 use Rattle.cd_top.proofs.Mapping.{memory_stops, comes_stopped}
-use Rattle.cd_top.proofs.Refused.{bad_capture_comes, not_yet_comes, too_long_comes}
+use Rattle.cd_top.proofs.Refused.{refused_comes, too_long_comes, capture_refusal, file_refusal, not_yet_refusal}
+use Rattle.cd_top.proofs.Reporting.{unsaid}
 use Rattle.cd_top.proofs.Unread.{none_taken, none_stops, unread, writes_none}
 use Rattle.cd_top.proofs.run.run_plain.Goals as goal
 
+pub returns-in-Ok-Compact-clause-refuses : goal.returns-in-Ok-Compact-clause-refuses
+returns-in-Ok-Compact-clause-refuses g c = λ place breaks. absurd (broken_is_no_line c.words_are_a_line_or_break_a_rule.ensures c.args.words.now place breaks (Compact c.in-Ok-Compact.settings, says_as c.args.words.now c.in-Ok-Compact.field-0 _ c.in-Ok-Compact.field-0-is c.in-Ok-Compact.ensures.command))
+
 pub returns-in-Ok-Compact-clause-bad_capture : goal.returns-in-Ok-Compact-clause-bad_capture
-returns-in-Ok-Compact-clause-bad_capture g c = λ s taken over b. bad_capture_comes _ s taken _ b
-    (run_ends _ _ s _ _ _ _ _ taken _ c.status_of.ensures c.compact_plain-ended.ensures.told over (search rules))
+returns-in-Ok-Compact-clause-bad_capture g c = λ d taken over b. refused_comes _ d taken _ (ended.BadCapture b) (capture_refusal b)
+    (run_ends c.words_say_at_most_one_command.ensures c.args.words.now _ d _ _ _ _ _ taken _ (says_as c.args.words.now c.in-Ok-Compact.field-0 _ c.in-Ok-Compact.field-0-is c.in-Ok-Compact.ensures.command) c.status_of.ensures c.compact_plain-ended.ensures.told over)
 
 pub returns-in-Ok-Compact-clause-not_yet : goal.returns-in-Ok-Compact-clause-not_yet
-returns-in-Ok-Compact-clause-not_yet g c = λ s taken over at. not_yet_comes _ s taken _ at
-    (run_ends _ _ s _ _ _ _ _ taken _ c.status_of.ensures c.compact_plain-ended.ensures.told over (search rules))
+returns-in-Ok-Compact-clause-not_yet g c = λ d taken over at. refused_comes _ d taken _ (ended.NotYet at) (not_yet_refusal at)
+    (run_ends c.words_say_at_most_one_command.ensures c.args.words.now _ d _ _ _ _ _ taken _ (says_as c.args.words.now c.in-Ok-Compact.field-0 _ c.in-Ok-Compact.field-0-is c.in-Ok-Compact.ensures.command) c.status_of.ensures c.compact_plain-ended.ensures.told over)
 
 pub returns-in-Ok-Compact-clause-too_long : goal.returns-in-Ok-Compact-clause-too_long
-returns-in-Ok-Compact-clause-too_long g c = λ s taken over. too_long_comes _ s taken _
-    (run_ends _ _ s _ _ _ _ _ taken _ c.status_of.ensures c.compact_plain-ended.ensures.told over (search rules))
+returns-in-Ok-Compact-clause-too_long g c = λ d taken over. too_long_comes _ d taken _
+    (run_ends c.words_say_at_most_one_command.ensures c.args.words.now _ d _ _ _ _ _ taken _ (says_as c.args.words.now c.in-Ok-Compact.field-0 _ c.in-Ok-Compact.field-0-is c.in-Ok-Compact.ensures.command) c.status_of.ensures c.compact_plain-ended.ensures.told over)
 
 pub returns-in-Ok-Compact-clause-ending : goal.returns-in-Ok-Compact-clause-ending
-returns-in-Ok-Compact-clause-ending g c = λ s taken over.
-    run_ends _ _ s _ _ _ _ _ taken _ c.status_of.ensures c.compact_plain-ended.ensures.told over (search rules)
+returns-in-Ok-Compact-clause-ending g c = λ d taken over.
+    run_ends c.words_say_at_most_one_command.ensures c.args.words.now _ d _ _ _ _ _ taken _ (says_as c.args.words.now c.in-Ok-Compact.field-0 _ c.in-Ok-Compact.field-0-is c.in-Ok-Compact.ensures.command) c.status_of.ensures c.compact_plain-ended.ensures.told over
 
-pub returns-in-Ok-Compact-clause-file : goal.returns-in-Ok-Compact-clause-file
-returns-in-Ok-Compact-clause-file g c = λ s taken over file of.
-    run_writes _ _ s _ _ _ _ _ taken file _ c.status_of.ensures c.compact_plain-ended.ensures.told over of (search rules)
+pub returns-in-Ok-Check-clause-refuses : goal.returns-in-Ok-Check-clause-refuses
+returns-in-Ok-Check-clause-refuses g c = λ place breaks. absurd (broken_is_no_line c.words_are_a_line_or_break_a_rule.ensures c.args.words.now place breaks (Check c.in-Ok-Check.max_input, says_as c.args.words.now c.in-Ok-Check.field-0 _ c.in-Ok-Check.field-0-is c.in-Ok-Check.ensures.command))
+
+pub returns-in-Ok-Check-clause-bad_capture : goal.returns-in-Ok-Check-clause-bad_capture
+returns-in-Ok-Check-clause-bad_capture g c = λ d taken over b. refused_comes _ d taken _ (ended.BadCapture b) (capture_refusal b)
+    (check_ends c.words_say_at_most_one_command.ensures c.args.words.now _ d _ _ _ _ c.check-ended.result taken _ (says_as c.args.words.now c.in-Ok-Check.field-0 _ c.in-Ok-Check.field-0-is c.in-Ok-Check.ensures.command) c.tell_check.ensures.tells c.check-ended.ensures.told over)
+
+pub returns-in-Ok-Check-clause-bad_file : goal.returns-in-Ok-Check-clause-bad_file
+returns-in-Ok-Check-clause-bad_file g c = λ d taken over b. refused_comes _ d taken _ (ended.BadFile b) (file_refusal b)
+    (check_ends c.words_say_at_most_one_command.ensures c.args.words.now _ d _ _ _ _ c.check-ended.result taken _ (says_as c.args.words.now c.in-Ok-Check.field-0 _ c.in-Ok-Check.field-0-is c.in-Ok-Check.ensures.command) c.tell_check.ensures.tells c.check-ended.ensures.told over)
+
+pub returns-in-Ok-Check-clause-not_yet : goal.returns-in-Ok-Check-clause-not_yet
+returns-in-Ok-Check-clause-not_yet g c = λ d taken over at. refused_comes _ d taken _ (ended.NotYet at) (not_yet_refusal at)
+    (check_ends c.words_say_at_most_one_command.ensures c.args.words.now _ d _ _ _ _ c.check-ended.result taken _ (says_as c.args.words.now c.in-Ok-Check.field-0 _ c.in-Ok-Check.field-0-is c.in-Ok-Check.ensures.command) c.tell_check.ensures.tells c.check-ended.ensures.told over)
+
+pub returns-in-Ok-Check-clause-too_long : goal.returns-in-Ok-Check-clause-too_long
+returns-in-Ok-Check-clause-too_long g c = λ d taken over. too_long_comes _ d taken _
+    (check_ends c.words_say_at_most_one_command.ensures c.args.words.now _ d _ _ _ _ c.check-ended.result taken _ (says_as c.args.words.now c.in-Ok-Check.field-0 _ c.in-Ok-Check.field-0-is c.in-Ok-Check.ensures.command) c.tell_check.ensures.tells c.check-ended.ensures.told over)
+
+pub returns-in-Ok-Check-clause-ending : goal.returns-in-Ok-Check-clause-ending
+returns-in-Ok-Check-clause-ending g c = λ d taken over.
+    check_ends c.words_say_at_most_one_command.ensures c.args.words.now _ d _ _ _ _ c.check-ended.result taken _ (says_as c.args.words.now c.in-Ok-Check.field-0 _ c.in-Ok-Check.field-0-is c.in-Ok-Check.ensures.command) c.tell_check.ensures.tells c.check-ended.ensures.told over
+
+pub returns-in-Ok-Compact-clause-taken : goal.returns-in-Ok-Compact-clause-taken
+returns-in-Ok-Compact-clause-taken g c = λ d says bytes told.
+    compact_takes c.words_say_at_most_one_command.ensures c.args.words.now _ d _ _ _ _ _ bytes (says_as c.args.words.now c.in-Ok-Compact.field-0 _ c.in-Ok-Compact.field-0-is c.in-Ok-Compact.ensures.command) says told c.compact_plain-ended.ensures.compacts
+
+pub returns-in-Ok-Check-clause-done : goal.returns-in-Ok-Check-clause-done
+returns-in-Ok-Check-clause-done g c = λ is. c.check-ended.ensures.done (told_end_is _ _ _ c.check-ended.result.0 ended.Done c.check-ended.result.1 c.tell_check.ensures.tells is (λ halt. halt))
+
+pub returns-in-Ok-Check-clause-done_whole : goal.returns-in-Ok-Check-clause-done_whole
+returns-in-Ok-Check-clause-done_whole g c = λ is.
+    let done = told_end_is _ _ _ c.check-ended.result.0 ended.Done c.check-ended.result.1 c.tell_check.ensures.tells is (λ halt. halt) in
+    c.check-ended.ensures.at_end (done_goes c.check-ended.result.0 done) (c.check-ended.ensures.done done)
+
+pub returns-in-Ok-Check-clause-read_fault_told : goal.returns-in-Ok-Check-clause-read_fault_told
+returns-in-Ok-Check-clause-read_fault_told g c = λ before now.
+    told_ends_as _ _ _ c.check-ended.result.0 ended.ReadFault c.check-ended.result.1 c.tell_check.ensures.tells (c.check-ended.ensures.read_fault_told before now)
+
+pub returns-in-Ok-Check-clause-write_fault : goal.returns-in-Ok-Check-clause-write_fault
+returns-in-Ok-Check-clause-write_fault g c = λ is. inr (c.tell_check.ensures.write_fault is)
+
+pub returns-in-Ok-Check-clause-report : goal.returns-in-Ok-Check-clause-report
+returns-in-Ok-Check-clause-report g c = λ max_input taken over counts are.
+    check_reports c.words_say_at_most_one_command.ensures c.args.words.now _ max_input _ _ _ _ c.check-ended.result taken counts _ (says_as c.args.words.now c.in-Ok-Check.field-0 _ c.in-Ok-Check.field-0-is c.in-Ok-Check.ensures.command) c.tell_check.ensures.tells c.check-ended.ensures.told over are
+
+pub returns-in-Ok-Check-clause-unended : goal.returns-in-Ok-Check-clause-unended
+returns-in-Ok-Check-clause-unended g c = λ d taken over unended.
+    check_unended c.words_say_at_most_one_command.ensures c.args.words.now _ d _ _ _ _ c.check-ended.result taken _ (says_as c.args.words.now c.in-Ok-Check.field-0 _ c.in-Ok-Check.field-0-is c.in-Ok-Check.ensures.command) c.tell_check.ensures.tells c.check-ended.ensures.told over unended c.check-ended.ensures.read_fault
+
+pub returns-in-Ok-Check-clause-taken : goal.returns-in-Ok-Check-clause-taken
+returns-in-Ok-Check-clause-taken g c = λ d says bytes told.
+    check_takes c.words_say_at_most_one_command.ensures c.args.words.now _ d _ _ _ bytes (says_as c.args.words.now c.in-Ok-Check.field-0 _ c.in-Ok-Check.field-0-is c.in-Ok-Check.ensures.command) says told c.check-ended.ensures.checks
+
+pub returns-in-Ok-Check-clause-complete_check : goal.returns-in-Ok-Check-clause-complete_check
+returns-in-Ok-Check-clause-complete_check g c = λ max_input says bytes left whole quiet unfailed.
+    check_completes _ _ _ c.check-ended.result.0 c.check-ended.result.1 c.tell_check.ensures.tells (λ is. unfailed (c.tell_check.ensures.write_fault is))
+    (c.check-ended.ensures.complete bytes left (whole_as_said c.words_say_at_most_one_command.ensures c.args.words.now _ max_input bytes (says_as c.args.words.now c.in-Ok-Check.field-0 _ c.in-Ok-Check.field-0-is c.in-Ok-Check.ensures.command) says whole) quiet)
 
 pub returns-in-Err-Usage-clause-refuses : goal.returns-in-Err-Usage-clause-refuses
 returns-in-Err-Usage-clause-refuses g c = λ place breaks.
     refused_words c.words_are_a_line_or_break_a_rule.ensures c.args.words.now c.in-Err-Usage.field-0 c.in-Err-Usage.place place _ _ _ _ _ c.in-Err-Usage.field-0-is c.in-Err-Usage.ensures.fault breaks c.refuse.ensures.refuses
 
+pub returns-in-Err-Usage-clause-too_long : goal.returns-in-Err-Usage-clause-too_long
+returns-in-Err-Usage-clause-too_long g c = λ d taken over.
+    absurd (broken_says_none c.words_are_a_line_or_break_a_rule.ensures c.args.words.now c.in-Err-Usage.field-0 c.in-Err-Usage.place d c.in-Err-Usage.field-0-is c.in-Err-Usage.ensures.fault over.says)
+
+pub returns-in-Err-Usage-clause-ending : goal.returns-in-Err-Usage-clause-ending
+returns-in-Err-Usage-clause-ending g c = λ d taken over.
+    absurd (broken_says_none c.words_are_a_line_or_break_a_rule.ensures c.args.words.now c.in-Err-Usage.field-0 c.in-Err-Usage.place d c.in-Err-Usage.field-0-is c.in-Err-Usage.ensures.fault over.says)
+
+pub returns-in-Err-Usage-clause-early : goal.returns-in-Err-Usage-clause-early
+returns-in-Err-Usage-clause-early g c = λ s taken over long front is.
+    absurd (broken_says_none c.words_are_a_line_or_break_a_rule.ensures c.args.words.now c.in-Err-Usage.field-0 c.in-Err-Usage.place (Compact s) c.in-Err-Usage.field-0-is c.in-Err-Usage.ensures.fault over.says)
+
+pub returns-in-Err-Usage-clause-report : goal.returns-in-Err-Usage-clause-report
+returns-in-Err-Usage-clause-report g c = λ max_input taken over counts are.
+    absurd (broken_says_none c.words_are_a_line_or_break_a_rule.ensures c.args.words.now c.in-Err-Usage.field-0 c.in-Err-Usage.place (Check max_input) c.in-Err-Usage.field-0-is c.in-Err-Usage.ensures.fault over.says)
+
 pub returns-in-Err-Usage-clause-taken : goal.returns-in-Err-Usage-clause-taken
-returns-in-Err-Usage-clause-taken g c = λ bytes told. ([], none_taken _ bytes told, none_stops _)
+returns-in-Err-Usage-clause-taken g c = λ d says bytes told.
+    absurd (broken_says_none c.words_are_a_line_or_break_a_rule.ensures c.args.words.now c.in-Err-Usage.field-0 c.in-Err-Usage.place d c.in-Err-Usage.field-0-is c.in-Err-Usage.ensures.fault says)
 
 pub returns-in-Err-NoMemory-clause-usage : goal.returns-in-Err-NoMemory-clause-usage
 returns-in-Err-NoMemory-clause-usage g c = comes_stopped status.NoMemory status.Usage _ refl (λ same. cc)
@@ -41,16 +120,19 @@ pub returns-in-Err-NoMemory-clause-refuses : goal.returns-in-Err-NoMemory-clause
 returns-in-Err-NoMemory-clause-refuses g c = λ place breaks. refused_spent place _ _ _
 
 pub returns-in-Err-NoMemory-clause-bad_capture : goal.returns-in-Err-NoMemory-clause-bad_capture
-returns-in-Err-NoMemory-clause-bad_capture g c = λ s taken over b. comes_stopped status.NoMemory (status.BadCapture b) _ refl (λ same. cc)
+returns-in-Err-NoMemory-clause-bad_capture g c = λ d taken over b. comes_stopped status.NoMemory (status.BadCapture b) _ refl (λ same. cc)
+
+pub returns-in-Err-NoMemory-clause-bad_file : goal.returns-in-Err-NoMemory-clause-bad_file
+returns-in-Err-NoMemory-clause-bad_file g c = λ d taken over b. comes_stopped status.NoMemory (status.BadFile b) _ refl (λ same. cc)
 
 pub returns-in-Err-NoMemory-clause-not_yet : goal.returns-in-Err-NoMemory-clause-not_yet
-returns-in-Err-NoMemory-clause-not_yet g c = λ s taken over at. comes_stopped status.NoMemory (status.NotYet at) _ refl (λ same. cc)
+returns-in-Err-NoMemory-clause-not_yet g c = λ d taken over at. comes_stopped status.NoMemory (status.NotYet at) _ refl (λ same. cc)
 
 pub returns-in-Err-NoMemory-clause-too_long : goal.returns-in-Err-NoMemory-clause-too_long
-returns-in-Err-NoMemory-clause-too_long g c = λ s taken over. comes_stopped status.NoMemory status.TooLong _ refl (λ same. cc)
+returns-in-Err-NoMemory-clause-too_long g c = λ d taken over. comes_stopped status.NoMemory status.TooLong _ refl (λ same. cc)
 
 pub returns-in-Err-NoMemory-clause-ending : goal.returns-in-Err-NoMemory-clause-ending
-returns-in-Err-NoMemory-clause-ending g c = λ s taken over. inr memory_stops
+returns-in-Err-NoMemory-clause-ending g c = λ d taken over. inr memory_stops
 
 pub returns-in-Err-NoMemory-clause-file : goal.returns-in-Err-NoMemory-clause-file
 returns-in-Err-NoMemory-clause-file g c = λ s taken over file of. writes_none (g.K.Sink.means c.args.out.now) file
@@ -58,5 +140,8 @@ returns-in-Err-NoMemory-clause-file g c = λ s taken over file of. writes_none (
 pub returns-in-Err-NoMemory-clause-early : goal.returns-in-Err-NoMemory-clause-early
 returns-in-Err-NoMemory-clause-early g c = λ s taken over long. absurd (omega (arith, unread _ taken over.took))
 
+pub returns-in-Err-NoMemory-clause-report : goal.returns-in-Err-NoMemory-clause-report
+returns-in-Err-NoMemory-clause-report g c = λ max_input taken over counts are. unsaid _ _ _
+
 pub returns-in-Err-NoMemory-clause-taken : goal.returns-in-Err-NoMemory-clause-taken
-returns-in-Err-NoMemory-clause-taken g c = λ bytes told. ([], none_taken _ bytes told, none_stops _)
+returns-in-Err-NoMemory-clause-taken g c = λ d says bytes told. ([], none_taken _ bytes told, none_stops d)

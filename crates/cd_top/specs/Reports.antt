@@ -1,0 +1,84 @@
+-- What a report says: a line for each count, and at last how the run ended.
+use Rattle.std.specs.Prelude.{◌≡◌, ℕ, List, [], ◌∷◌, ◌++◌, codes}
+use Rattle.std.specs.Fmt.{decimal, signed_decimal}
+use Rattle.std.specs.Io.KnownBytes.{Appends}
+use Rattle.cd_engine.specs.Endings.{IfStopped}
+use Rattle.cd_engine.specs.declared.ended.Ended.{Ended}
+use Rattle.cd_file.specs.declared.refusal.FileWhy.{FileWhy}
+use Rattle.cd_file.specs.declared.refusal.FileWhy.TheVariants as file
+use Rattle.cd_inspection.specs.declared.counting.ReadCounts.{ReadCounts}
+use Rattle.cd_packet.specs.declared.capture.CaptureWhy.{CaptureWhy}
+use Rattle.cd_packet.specs.declared.capture.CaptureWhy.TheVariants as capture
+use Rattle.cd_ports.specs.Writing.{SinkMeaning, AppendsPrefix}
+use Rattle.cd_top.specs.Statuses.{status_of, IsStopped, EndsAs}
+use Rattle.cd_top.specs.declared.status.Status.{Status}
+use Rattle.cd_top.specs.declared.status.Status.TheVariants as status
+
+-- the line of a count: its name, a space, the number and a line feed
+abbrev pub count_line : List ℕ → ℕ → List ℕ
+count_line name count = name ++ codes " " ++ decimal count ++ 10 ∷ []
+
+-- why a capture is refused
+abbrev pub capture_why_text : CaptureWhy → List ℕ
+capture_why_text capture.Magic = codes "magic"
+capture_why_text capture.Version = codes "version"
+capture_why_text capture.Record = codes "record"
+capture_why_text capture.Section = codes "section"
+capture_why_text capture.Order = codes "order"
+capture_why_text capture.BlockLength = codes "block-length"
+capture_why_text capture.TrailerMismatch = codes "trailer-mismatch"
+capture_why_text capture.Interface = codes "interface"
+capture_why_text capture.Resolution = codes "resolution"
+
+-- why a file is refused, with the offset, the key or the table that it is refused for, where there is one
+abbrev pub file_why_text : FileWhy → List ℕ
+file_why_text (file.Cbor at) = codes "cbor " ++ decimal at
+file_why_text file.NotCdns = codes "not-cdns"
+file_why_text file.Version = codes "version"
+file_why_text file.NotMap = codes "not-map"
+file_why_text (file.Shape key) = codes "shape " ++ signed_decimal key
+file_why_text (file.Repeated key) = codes "repeated " ++ signed_decimal key
+file_why_text (file.Missing key) = codes "missing " ++ signed_decimal key
+file_why_text (file.Index table) = codes "index " ++ decimal table
+file_why_text file.Name = codes "name"
+file_why_text file.ParamIndex = codes "param-index"
+file_why_text file.TimeRange = codes "time-range"
+file_why_text file.TooLarge = codes "too-large"
+file_why_text file.Trailing = codes "trailing"
+
+-- how a run ended, with the place and the reason of a refusal
+abbrev pub status_text : Status → List ℕ
+status_text status.Done = codes "done"
+status_text status.Usage = codes "usage"
+status_text (status.BadCapture b) = codes "bad-capture " ++ decimal b.at ++ codes " " ++ capture_why_text b.why
+status_text (status.BadFile b) = codes "bad-file " ++ decimal b.block ++ codes " " ++ file_why_text b.why
+status_text status.ReadFault = codes "read-fault"
+status_text status.WriteFault = codes "write-fault"
+status_text status.NoMemory = codes "no-memory"
+status_text status.TooLong = codes "too-long"
+status_text (status.NotYet at) = codes "not-yet " ++ decimal at
+
+-- the last line of a report: how the run ended
+abbrev pub status_line : Status → List ℕ
+status_line s = codes "status " ++ status_text s ++ 10 ∷ []
+
+-- the report of `check`
+abbrev pub check_report : ReadCounts → Status → List ℕ
+check_report counts s =
+    count_line (codes "blocks") counts.blocks ++ count_line (codes "items") counts.items
+    ++ count_line (codes "malformed") counts.malformed ++ status_line s
+
+-- The run ends so and this is its report; or a write failed or memory ran out, and a prefix of it is written.
+pub record TellsReport (old new : SinkMeaning) (result s : Status) (text : List ℕ) : Type 0 where
+  pub ends : EndsAs result s
+  pub whole : ¬ (IsStopped result) → Appends old.contents new.contents text
+  pub front : IsStopped result → AppendsPrefix old.contents new.contents text
+
+-- the run ends so, and the report of `check` says these counts and that
+abbrev pub ReportsCheck : SinkMeaning → SinkMeaning → Status → ReadCounts → Status → Type 0
+ReportsCheck old new result counts s = TellsReport old new result s (check_report counts s)
+
+-- where a check found no memory the run ends so, and nothing is reported; else its counts and its end are
+abbrev pub TellsCheck : SinkMeaning → SinkMeaning → Status → Ended → ReadCounts → Type 0
+TellsCheck old new result e counts =
+    IfStopped e ((result ≡ status_of e) × (new ≡ old)) (ReportsCheck old new result counts (status_of e))
