@@ -133,5 +133,5 @@ module _ {T J D : Type 0} (meets : J → D → Type 0) (task : T) (slots : ℕ) 
         b.0,
         b.2,
         subst (λ (z : Homes J D). Ring meets task slots record { words = set s.words i (get_or s.words i 0); homes = z; views = set s.views id w }) (sym b.3) (unmoved meets task slots s r i id me.0 w at refl),
-        (refl, sh.0, refl, (b.1, b.4), subst (λ (z : List (ℕ × Place J D)). are_places_of z k.held ≡ true) (sym b.4) b.5),
+        ((refl, refl), sh.0, refl, (b.1, b.4), subst (λ (z : List (ℕ × Place J D)). are_places_of z k.held ≡ true) (sym b.4) b.5),
       )

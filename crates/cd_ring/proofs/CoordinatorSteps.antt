@@ -14,7 +14,7 @@ use Rattle.cd_ring.specs.declared.view.View.{View}
 use Rattle.cd_ring.specs.Core.{Phase, free, ready, taken, done, Core, Event, post, claim, finish, take, number, with_phase, posted_one, taken_one, After, Ordered}
 use Rattle.cd_ring.specs.Core as core
 use Rattle.cd_ring.specs.Rule.{FREE, READY, known, Homes, Holds, Shows, Rule, Ring}
-use Rattle.cd_ring.specs.Kinds.{Seated, with_note, with_post, with_take, marked_ready, marked_free, became}
+use Rattle.cd_ring.specs.Kinds.{Seated, stored, with_note, with_post, with_take, marked_ready, marked_free, became}
 use Rattle.cd_ring.proofs.Core.{at_inside}
 use Rattle.cd_ring.proofs.Moves.{good, phase_at, moved}
 use Rattle.cd_ring.proofs.WordSteps.{tells, head_at, viewed}
@@ -64,7 +64,7 @@ module _ {T J D : Type 0} (meets : J → D → Type 0) (task : T) (slots : ℕ) 
   -- the slot i of the coordinator goes on to f, and its view to u
   coordinator_moved : (s : S) (r : Holding s) (i w id : ℕ) (v : View T J D) (u : Known T J D) (e : Event J D) (c : Core J D) (homes' : Homes J D) (f : Phase D)
       → i < slots → get_elem? s.views id ≡ some v → v.known.leads ≡ true → core.Steps meets slots r.lead r.core e c
-      → u.leads ≡ true → u.task ≡ v.known.task → u.taken ≡ length c.results → u.out ≡ drop u.taken c.posted → length u.notes ≡ slots → (v.known.stopped ≡ true → u.stopped ≡ true)
+      → u.leads ≡ true → u.task ≡ v.known.task → u.taken ≡ length c.results → u.out ≡ drop u.taken c.posted → length u.notes ≡ slots → u.stopped ≡ v.known.stopped
       → c.phases ≡ set r.core.phases i f → ((p : ℕ) (x : J) → get_elem? r.core.posted p ≡ some x → get_elem? c.posted p ≡ some x)
       → length homes' ≡ length s.homes → ((k : ℕ) → k ≢ i → get_elem? homes' k ≡ get_elem? s.homes k)
       → ((k : ℕ) → k ≢ i → get_elem? u.notes k ≡ get_elem? v.known.notes k) → ((k : ℕ) → k ≢ i → get_elem? u.held k ≡ get_elem? v.known.held k)
@@ -77,13 +77,13 @@ module _ {T J D : Type 0} (meets : J → D → Type 0) (task : T) (slots : ℕ) 
       moved meets task slots s.words s.homes all r i w id v.known u u (e ∷ r.events) c homes' f near (r.core, r.after, did) at'
       (subst (λ (z : ℕ). get_elem? (set all id u) z ≡ some u) (sym b.0) (set_here all id u (at_inside all id v.known at')))
       led (λ _. leads) (task_is ∙ (ap (λ (z : Known T J D). z.task) (sym b.1) ∙ r.task_is)) taken_is out_is notes_long
-      (λ is. stops (ap (λ (z : Known T J D). z.stopped) (sym b.1) ∙ is)) phases more as_long home
+      (stops ∙ ap (λ (z : Known T J D). z.stopped) (sym b.1)) phases more as_long home
       (λ k other. note k other ∙ ap (λ (z : Known T J D). get_elem? z.notes k) (sym b.1)) hold here own theirs
 
   -- the coordinator gives the place with the next job
   pub posts : (n id : ℕ) (me : M) (i : ℕ) (x : J) (c : List (ℕ × Place J D)) → me.0.known.leads ≡ true → get_elem? me.0.known.notes i ≡ some Spare
       → i ≡ (me.0.known.taken + length me.0.known.out) % slots → length me.0.known.out < slots → me.1 ≡ (i, Job x) ∷ c
-      → Allows Holding n id me i (λ _. READY) (λ _ m. became (with_post me.0.known i x) c me m)
+      → Allows Holding n id me i (λ _. READY) (λ _ m. became (with_post me.0.known i x) c i READY (Some (Job x)) me m)
   posts n id me i x c leads spare turn room placed s r wide at _ = let all = All s in let at' : get_elem? all id ≡ some me.0.known = at_map known s.views id me.0 at in
       let b = coordinator_of s r id me.0 at leads in let o = good meets task slots s.words s.homes all r in let k = me.0.known in let t : ℕ = length r.core.results in let m : ℕ = length r.core.posted in let q : ℕ = length k.out in
       let q_is : length r.coordinator.out ≡ q = ap (λ (z : Known T J D). length z.out) b.1 in let k_taken : k.taken ≡ t = ap (λ (z : Known T J D). z.taken) (sym b.1) ∙ r.taken_is in
@@ -95,7 +95,7 @@ module _ {T J D : Type 0} (meets : J → D → Type 0) (task : T) (slots : ℕ) 
       let ph = phase_at meets task slots s.words s.homes all r i near in
       let is_free : ph.0 ≡ free = spare_free s.words s.homes r.coordinator.notes all r.core.posted i (ap (λ (z : Known T J D). get_elem? z.notes i) b.1 ∙ spare) ph.0 ph.2 in
       let no_claim : (j p : ℕ) → get_elem? r.core.phases i ≡ some (taken p j) → ⊥ = λ j p e. let z : free ≡ taken p j = sym is_free ∙ some-injective ph.0 (taken p j) (sym ph.1 ∙ e) in cc in
-      let u = with_post k i x in let w : View T J D = record { known = u; looks = me.0.looks } in let homes' = set s.homes i (some (Job x)) in
+      let u = with_post k i x in let w : View T J D = record { known = u; looks = me.0.looks; stores = stored me.0.stores i READY (Some (Job x)) } in let homes' = set s.homes i (some (Job x)) in
       let e' = posted_one slots r.core x in let behind : t ≤ m = o.behind in let room' : q < slots = room in (
         w,
         gives,
@@ -106,14 +106,14 @@ module _ {T J D : Type 0} (meets : J → D → Type 0) (task : T) (slots : ℕ) 
             leads refl k_taken
             (ap (λ (z : List J). z ++ x ∷ []) (ap (λ (z : Known T J D). z.out) (sym b.1) ∙ r.out_is ∙ ap (λ (z : Known T J D). drop z.taken r.core.posted) b.1)
             ∙ sym (drop-append-le k.taken r.core.posted (x ∷ []) (subst (λ (z : ℕ). z ≤ m) (sym k_taken) behind)))
-            (length-set k.notes i Home ∙ notes_long) (λ y. y)
+            (length-set k.notes i Home ∙ notes_long) refl
             (ap (λ (z : ℕ). set r.core.phases z (ready m)) (sym turn'))
             (λ p y e. at_longer r.core.posted (x ∷ []) p y e)
             (length-set s.homes i (some (Job x))) (λ j other. set_else s.homes i j (some (Job x)) other) (λ j other. set_else k.notes i j Home other) (λ j _. refl)
             (get_or-set_same s.words i READY 0 words_long, set_here k.notes i Home (subst (λ (z : ℕ). i < z) (sym notes_long) near), (x, at_last r.core.posted x m refl, set_here s.homes i (some (Job x)) far))
             (λ y e. let h = r.held id k i y at' e in absurd (no_claim id h.0 h.1))
             (λ j p _ e. no_claim j p e))),
-        (refl, refl, ap rest placed),
+        (refl, refl, ap rest placed, refl),
       )
 
   -- the oldest job stands in its slot
@@ -133,7 +133,7 @@ module _ {T J D : Type 0} (meets : J → D → Type 0) (task : T) (slots : ℕ) 
   -- the coordinator has the oldest job's result, and the slot is free again. It has met DONE there, or has performed the job that it claimed
   pub frees : (n id : ℕ) (me : M) (i : ℕ) (x : J) (xs : List J) (d : D) → me.0.known.leads ≡ true → i ≡ me.0.known.taken % slots → me.0.known.out ≡ x ∷ xs
       → (get_elem? me.0.known.notes i ≡ some (Met d)) ⊎ (Holds me.0.known i x × meets x d)
-      → Allows Holding n id me i (λ _. FREE) (λ _ m. became (with_take me.0.known i xs) me.1 me m)
+      → Allows Holding n id me i (λ _. FREE) (λ _ m. became (with_take me.0.known i xs) me.1 i FREE None me m)
   frees n id me i x xs d leads turn out ways s r wide at _ = let all = All s in let at' : get_elem? all id ≡ some me.0.known = at_map known s.views id me.0 at in let k = me.0.known in
       let b = coordinator_of s r id me.0 at leads in let o = good meets task slots s.words s.homes all r in let t : ℕ = length r.core.results in let m : ℕ = length r.core.posted in
       let taken_is : k.taken ≡ t = ap (λ (z : Known T J D). z.taken) (sym b.1) ∙ r.taken_is in let turn' : i ≡ t % slots = turn ∙ ap (λ (z : ℕ). z % slots) taken_is in
@@ -141,7 +141,7 @@ module _ {T J D : Type 0} (meets : J → D → Type 0) (task : T) (slots : ℕ) 
       let words_long : i < length s.words = subst (λ (z : ℕ). i < z) (sym r.wide) (omega arith) in
       let notes_long : length k.notes ≡ slots = ap (λ (z : Known T J D). length z.notes) (sym b.1) ∙ r.notes_long in
       let old = oldest s r k b.1 x xs out in let ph = phase_at meets task slots s.words s.homes all r i near in let num = oldest_phase s r i turn' old.0 ph.0 ph.1 in
-      let u = with_take k i xs in let w : View T J D = record { known = u; looks = me.0.looks } in let e' = taken_one slots r.core d in
+      let u = with_take k i xs in let w : View T J D = record { known = u; looks = me.0.looks; stores = stored me.0.stores i FREE None } in let e' = taken_one slots r.core d in
       -- what either way gives: the core's step, the place is out, and nobody else holds the slot
       let Way : Type 0 = core.Steps meets slots r.lead r.core (take d) e' × (get_elem? s.homes i ≡ some none) × ((j p : ℕ) → j ≢ id → get_elem? r.core.phases i ≡ some (taken p j) → ⊥) in
       let way : Way = ⊎_elim
@@ -162,12 +162,12 @@ module _ {T J D : Type 0} (meets : J → D → Type 0) (task : T) (slots : ℕ) 
         viewed meets task slots s i FREE id s.homes w
             (coordinator_moved s r i FREE id me.0 u (take d) e' s.homes free near at leads way.0
             leads refl (ap (λ (z : ℕ). z + 1) taken_is ∙ sym (length-append r.core.results (d ∷ []))) old.2
-            (length-set k.notes i Spare ∙ notes_long) (λ y. y)
+            (length-set k.notes i Spare ∙ notes_long) refl
             (ap (λ (z : ℕ). set r.core.phases z free) (sym turn')) (λ p y e. e) refl (λ j _. refl) (λ j other. set_else k.notes i j Spare other) (λ j other. set_else k.held i j None other)
             (get_or-set_same s.words i FREE 0 words_long, inr (set_here k.notes i Spare (subst (λ (z : ℕ). i < z) (sym notes_long) near), way.1))
             (λ y e. ⊎_elim (λ (t : (i ≡ i) × (None ≡ Some y)). let z : None ≡ Some y = t.1 in cc) (λ (t : (i ≢ i) × (get_elem? k.held i ≡ some (Some y))). absurd (t.0 refl)) (at_set k.held i i None (Some y) e))
             way.2),
-        (refl, refl, refl),
+        (refl, refl, refl, refl),
       )
 
   -- a step at which the core stays, and the coordinator takes the place of i and notes it
@@ -182,19 +182,19 @@ module _ {T J D : Type 0} (meets : J → D → Type 0) (task : T) (slots : ℕ) 
       (subst (λ (z : ℕ). get_elem? (set all id u) z ≡ some u) (sym b.0) (set_here all id u (at_inside all id k at')))
       leads (λ z. z) (ap (λ (z : Known T J D). z.task) (sym b.1) ∙ r.task_is) (ap (λ (z : Known T J D). z.taken) (sym b.1) ∙ r.taken_is)
       (ap (λ (z : Known T J D). z.out) (sym b.1) ∙ r.out_is ∙ ap (λ (z : Known T J D). drop z.taken r.core.posted) b.1) (length-set k.notes i a ∙ notes_long)
-      (λ is. ap (λ (z : Known T J D). z.stopped) (sym b.1) ∙ is) (sym (set_again r.core.phases i f phase)) (λ p x e. e) (length-set s.homes i none) (λ j other. set_else s.homes i j none other)
+      (ap (λ (z : Known T J D). z.stopped) (sym b.1)) (sym (set_again r.core.phases i f phase)) (λ p x e. e) (length-set s.homes i none) (λ j other. set_else s.homes i j none other)
       (λ j other. set_else k.notes i j a other ∙ ap (λ (z : Known T J D). get_elem? z.notes j) (sym b.1)) (λ j _. refl) here
       (λ y e. let h = r.held id k i y at' e in absurd (no_claim id h.0 h.1)) (λ j p _ e. no_claim j p e)
 
   -- the same, as the two stores tell it
   pub marks_ready : (n id : ℕ) (me : M) (i : ℕ) (x : J) (c : List (ℕ × Place J D)) → me.0.known.leads ≡ true → get_elem? me.0.known.notes i ≡ some Spare
       → i ≡ (me.0.known.taken + length me.0.known.out) % slots → length me.0.known.out < slots → me.1 ≡ (i, Job x) ∷ c
-      → Allows Holding n id me i (λ _. READY) (λ _ m. marked_ready (step n i READY 0 none) me m)
-  marks_ready n id me i x c leads spare turn room placed = tells Holding n id i me (λ _. READY) (λ _ m. became (with_post me.0.known i x) c me m) (λ _ m. marked_ready (step n i READY 0 none) me m)
+      → Allows Holding n id me i (λ _. READY) (λ _ m. marked_ready (step n i READY 0 none) me READY m)
+  marks_ready n id me i x c leads spare turn room placed = tells Holding n id i me (λ _. READY) (λ _ m. became (with_post me.0.known i x) c i READY (Some (Job x)) me m) (λ _ m. marked_ready (step n i READY 0 none) me READY m)
       (posts n id me i x c leads spare turn room placed) (λ y m told. (x, c, placed, told))
 
   pub marks_free : (n id : ℕ) (me : M) (i : ℕ) (x : J) (xs : List J) (d : D) → me.0.known.leads ≡ true → i ≡ me.0.known.taken % slots → me.0.known.out ≡ x ∷ xs
       → (get_elem? me.0.known.notes i ≡ some (Met d)) ⊎ (Holds me.0.known i x × meets x d)
-      → Allows Holding n id me i (λ _. FREE) (λ _ m. marked_free (step n i FREE 0 none) me m)
-  marks_free n id me i x xs d leads turn out ways = tells Holding n id i me (λ _. FREE) (λ _ m. became (with_take me.0.known i xs) me.1 me m) (λ _ m. marked_free (step n i FREE 0 none) me m)
+      → Allows Holding n id me i (λ _. FREE) (λ _ m. marked_free (step n i FREE 0 none) me FREE m)
+  marks_free n id me i x xs d leads turn out ways = tells Holding n id i me (λ _. FREE) (λ _ m. became (with_take me.0.known i xs) me.1 i FREE None me m) (λ _ m. marked_free (step n i FREE 0 none) me FREE m)
       (frees n id me i x xs d leads turn out ways) (λ y m told. (x, xs, out, told))

@@ -7,6 +7,7 @@ pub mod Rests
 pub mod SeatSteps
 pub mod Takes
 pub mod TakingPlaces
+pub mod Telling
 pub mod Turns
 pub mod WordSteps
 pub mod Workers

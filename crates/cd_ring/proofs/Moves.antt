@@ -57,7 +57,7 @@ module _ {T J D : Type 0} (meets : J → D → Type 0) (task : T) (slots : ℕ) 
   pub moved : (words : List ℕ) (homes : Homes J D) (all : List L) (r : R words homes all) (i w id : ℕ) (v u coordinator : L) (es : List (Event J D)) (c : Core J D) (homes' : Homes J D) (f : Phase D)
       → i < slots → After meets slots r.lead es c → get_elem? all id ≡ some v
       → get_elem? (set all id u) r.lead ≡ some coordinator → coordinator.leads ≡ true → (u.leads ≡ true → v.leads ≡ true) → coordinator.task ≡ Some task → coordinator.taken ≡ length c.results → coordinator.out ≡ drop coordinator.taken c.posted
-      → length coordinator.notes ≡ slots → (r.coordinator.stopped ≡ true → coordinator.stopped ≡ true)
+      → length coordinator.notes ≡ slots → coordinator.stopped ≡ r.coordinator.stopped
       → c.phases ≡ set r.core.phases i f → ((p : ℕ) (x : J) → get_elem? r.core.posted p ≡ some x → get_elem? c.posted p ≡ some x)
       → length homes' ≡ length homes → ((k : ℕ) → k ≢ i → get_elem? homes' k ≡ get_elem? homes k)
       → ((k : ℕ) → k ≢ i → get_elem? coordinator.notes k ≡ get_elem? r.coordinator.notes k) → ((k : ℕ) → k ≢ i → get_elem? u.held k ≡ get_elem? v.held k)
@@ -99,7 +99,7 @@ module _ {T J D : Type 0} (meets : J → D → Type 0) (task : T) (slots : ℕ) 
         (λ (t : (j ≢ id) × (get_elem? all j ≡ some x)). let old = r.held j x k y t.1 h in
         (old.0, now k (taken old.0 j) (set_else r.core.phases i k f (λ is. theirs j old.0 t.0 (subst (λ (z : ℕ). get_elem? r.core.phases z ≡ some (taken old.0 j)) is old.1)) ∙ old.1), more old.0 y old.2))
         (at_set all id j u x e);
-    stop = λ is. stops (r.stop (sym (get_or-set_other words i slots w 0 (λ e. omega arith)) ∙ is));
+    stop = let same = get_or-set_other words i slots w 0 (λ e. omega arith) in (λ is. stops ∙ r.stop.0 (sym same ∙ is), λ is. same ∙ r.stop.1 (sym stops ∙ is));
   }
     where
       now : (k : ℕ) (g : Phase D) → get_elem? (set r.core.phases i f) k ≡ some g → get_elem? c.phases k ≡ some g

@@ -52,13 +52,13 @@ module _ {T J D : Type 0} (full : T → J → D → Type 0) (task : T) (slots : 
         takes i (Job z),
         got.2,
         viewed meets task slots s i TAKEN id (set s.homes i none) w got.3,
-        (refl, (λ _. (z, xs, out ∙ ap (λ (q : J). q ∷ xs) (sym first), (refl, refl))), (λ d. let g = sh.0 in absurd (omega arith)), λ miss _. absurd (miss (is ∙ hit))),
+        ((refl, refl), (λ _. (z, xs, out ∙ ap (λ (q : J). q ∷ xs) (sym first), (refl, refl))), (λ d. let g = sh.0 in absurd (omega arith)), λ miss _. absurd (miss (is ∙ hit))),
       ))
       (λ miss. absurd (miss (sym is ∙ sh.0)))
   claim_oldest_at n id me i x xs leads turn out home held_near s r at y is near (taken p j) e num sh = let told = claimed_oldest full (step n i READY TAKEN none) me in
       let two : y ≡ TAKEN = sym is ∙ sh.0 in exchanged y READY TAKEN (Goes meets task slots s i id me told)
       (λ hit. absurd (omega arith))
-      (λ miss. subst (Goes meets task slots s i id me told) is (stands meets task slots s r i id me told at (refl, (λ hit. absurd (miss (sym is ∙ hit))), (λ d. absurd (omega arith)), λ _ _. (sh.0, (refl, refl)))))
+      (λ miss. subst (Goes meets task slots s i id me told) is (stands meets task slots s r i id me told at ((refl, refl), (λ hit. absurd (miss (sym is ∙ hit))), (λ d. absurd (omega arith)), λ _ _. (sh.0, (refl, refl)))))
   claim_oldest_at n id me i x xs leads turn out home held_near s r at y is near (done p d) e num sh = let told = claimed_oldest full (step n i READY TAKEN none) me in
       let three : y ≡ DONE = sym is ∙ sh.0 in let b = coordinator_of meets task slots s r id me.0 at leads in let old = oldest meets task slots s r me.0.known b.1 x xs out in
       let o = good meets task slots s.words s.homes (All s) r in let m = o.done_meets i p d e in let same : p ≡ length r.core.results = some-injective p (length r.core.results) num in
@@ -77,7 +77,7 @@ module _ {T J D : Type 0} (full : T → J → D → Type 0) (task : T) (slots : 
         viewed meets task slots s i y id (set s.homes i none) w (noted_moved meets task slots s r i y id me.0 (Met d) (done p d) near at leads e (λ j q z. cc)
             (get_or-set_same s.words i y 0 (subst (λ (z : ℕ). i < z) (sym r.wide) (omega arith)) ∙ three, inr (set_here k.notes i (Met d) (subst (λ (z : ℕ). i < z) (sym notes_long) near), set_here s.homes i none far))),
         (
-          refl,
+          (refl, refl),
           (λ hit. absurd (miss (sym is ∙ hit))),
           (λ _. (d, x, xs, task, (ap (λ (z : Known T J D). z.task) (sym b.1) ∙ r.task_is), out, subst (λ (z : J). meets z d) first m.2, refl, refl)),
           λ _ other. absurd (other sh.0),
@@ -119,5 +119,5 @@ module _ {T J D : Type 0} (full : T → J → D → Type 0) (task : T) (slots : 
         got.1,
         viewed meets task slots s i y id (set s.homes i none) w (noted_moved meets task slots s r i y id me.0 Spare free near at leads (ph.1 ∙ ap some got.0) (λ j q z. cc)
             (get_or-set_same s.words i y 0 (subst (λ (z : ℕ). i < z) (sym r.wide) (omega arith)) ∙ got.2, inr (set_here k.notes i Spare (subst (λ (z : ℕ). i < z) (sym notes_long) near), set_here s.homes i none far))),
-        (refl, refl, refl),
+        ((refl, refl), refl, refl),
       )

@@ -7,11 +7,12 @@ use native.Mathlib.Nat.{mod-add-mod, add-mod_right}
 use lib.ListN.{get_elem?}
 use Rattle.atomic_table.proofs.Lists.{set_here, set_else, one_turn}
 use Rattle.cd_ring.specs.declared.view.Place.{Place}
-use Rattle.cd_ring.specs.declared.view.Place.TheVariants.{Empty}
+use Rattle.cd_ring.specs.declared.view.Place.TheVariants.{Empty, Job}
 use Rattle.cd_ring.specs.declared.view.Note.{Note}
 use Rattle.cd_ring.specs.declared.view.Note.TheVariants.{Home, Spare}
 use Rattle.cd_ring.specs.declared.view.Known.{Known}
-use Rattle.cd_ring.specs.Kinds.{Seated, with_post}
+use Rattle.cd_ring.specs.Kinds.{Seated, stored, with_post}
+use Rattle.cd_ring.specs.Rule.{READY}
 use Rattle.cd_ring.specs.Rest.{spares, AtRest, Took}
 use Rattle.atomic_table.specs.Table.{turned}
 
@@ -33,11 +34,11 @@ module _ {T J D : Type 0} (slots next count : ℕ) where
   )
 
   pub posted : (m n : Seated T J D) (i : ℕ) (x : J) → AtRest slots next count m → count < slots → i ≡ (next + count) % slots
-      → n.0.known ≡ with_post m.0.known i x → n.0.looks ≡ m.0.looks → n.1 ≡ spares slots (m.0.known.taken + count + 1) (slots - (count + 1)) → AtRest slots next (count + 1) n
-  posted m n i x r room is e f g = let t : ℕ = m.0.known.taken in let pl = next_place m r room i is in let k = with_post m.0.known i x in
+      → n.0.known ≡ with_post m.0.known i x → n.0.looks ≡ m.0.looks → n.0.stores ≡ stored m.0.stores i READY (Some (Job x)) → n.1 ≡ spares slots (m.0.known.taken + count + 1) (slots - (count + 1)) → AtRest slots next (count + 1) n
+  posted m n i x r room is e f h g = let t : ℕ = m.0.known.taken in let pl = next_place m r room i is in let k = with_post m.0.known i x in
       let near : i < slots = subst (λ (z : ℕ). z < slots) (sym pl.0) (mod-lt (t + count) r.some_slot) in
       let apart : (j : ℕ) → j < slots → j ≢ count → (t + j) % slots ≢ i = λ j low other same. other (turn t j count low room (same ∙ pl.0)) in
-      subst (AtRest slots next (count + 1)) (λ l. (record { known = sym e l; looks = sym f l }, sym g l)) record {
+      subst (AtRest slots next (count + 1)) (λ l. (record { known = sym e l; looks = sym f l; stores = sym h l }, sym g l)) record {
         leads = r.leads;
         count_is = length-append m.0.known.out (x ∷ []) ∙ ap (λ (z : ℕ). z + 1) r.count_is;
         next_is = r.next_is;
@@ -45,6 +46,7 @@ module _ {T J D : Type 0} (slots next count : ℕ) where
         within = omega arith;
         held_long = r.held_long;
         looks_long = r.looks_long;
+        stores_long = length-set m.0.stores i _ ∙ r.stores_long;
         notes_long = length-set m.0.known.notes i Home ∙ r.notes_long;
         no_claim = r.no_claim;
         home = λ j low. dite (ℕ_discrete j count)
@@ -79,9 +81,9 @@ module _ {T J D : Type 0} (slots next count : ℕ) where
   -- the oldest job was taken: the slot is free again, and its place is the last of those that the coordinator has
   pub took : (m n : Seated T J D) (x : J) (xs : List J) (c : ℕ) → AtRest slots next count m → count ≡ c + 1 → m.0.known.out ≡ x ∷ xs
       → n.0.known.leads ≡ true → n.0.known.out ≡ xs → n.0.known.taken ≡ m.0.known.taken + 1 → length n.0.known.held ≡ slots → ((i : ℕ) (y : J) → get_elem? n.0.known.held i ≡ some (Some y) → ⊥)
-      → n.0.known.notes ≡ set m.0.known.notes next Spare → length n.0.looks ≡ slots + 1 → n.1 ≡ m.1 ++ (next, Empty) ∷ []
+      → n.0.known.notes ≡ set m.0.known.notes next Spare → length n.0.looks ≡ slots + 1 → length n.0.stores ≡ slots + 1 → n.1 ≡ m.1 ++ (next, Empty) ∷ []
       → AtRest slots ((next + 1) % slots) c n
-  took m n x xs c r counts out leads out' taken held_long no_claim notes looks_long places = let t : ℕ = m.0.known.taken in let u : ℕ = n.0.known.taken in let u_is : u ≡ t + 1 = taken in
+  took m n x xs c r counts out leads out' taken held_long no_claim notes looks_long stores_long places = let t : ℕ = m.0.known.taken in let u : ℕ = n.0.known.taken in let u_is : u ≡ t + 1 = taken in
       let within : count ≤ slots = r.within in let pos : 0 < slots = r.some_slot in
       let near : next < slots = subst (λ (z : ℕ). z < slots) (sym r.next_is) (mod-lt t r.some_slot) in
       let slot : (j : ℕ) → (u + j) % slots ≡ (t + (j + 1)) % slots = λ j. ap (λ (z : ℕ). z % slots) (omega arith) in
@@ -93,6 +95,7 @@ module _ {T J D : Type 0} (slots next count : ℕ) where
         within = omega arith;
         held_long = held_long;
         looks_long = looks_long;
+        stores_long = stores_long;
         notes_long = ap length notes ∙ (length-set m.0.known.notes next Spare ∙ r.notes_long);
         no_claim = no_claim;
         home = λ j low. ap (λ (z : ℕ). get_elem? n.0.known.notes z) (slot j) ∙ (note ((t + (j + 1)) % slots) ∙ (set_else m.0.known.notes next ((t + (j + 1)) % slots) Spare
@@ -108,8 +111,8 @@ module _ {T J D : Type 0} (slots next count : ℕ) where
       }
 
   -- a look leaves it at rest
-  pub looked_rest : (m n : Seated T J D) → AtRest slots next count m → n.0.known ≡ m.0.known → n.1 ≡ m.1 → length n.0.looks ≡ length m.0.looks → AtRest slots next count n
-  looked_rest m n r e f g = subst (λ (z : Known T J D × List (ℕ × Place J D)). AtRest slots next count (record { known = z.0; looks = n.0.looks }, z.1)) (λ l. (sym e l, sym f l))
+  pub looked_rest : (m n : Seated T J D) → AtRest slots next count m → n.0.known ≡ m.0.known → n.1 ≡ m.1 → length n.0.looks ≡ length m.0.looks → n.0.stores ≡ m.0.stores → AtRest slots next count n
+  looked_rest m n r e f g h = subst (λ (z : Known T J D × List (ℕ × Place J D)). AtRest slots next count (record { known = z.0; looks = n.0.looks; stores = n.0.stores }, z.1)) (λ l. (sym e l, sym f l))
       record {
         leads = r.leads;
         count_is = r.count_is;
@@ -118,6 +121,7 @@ module _ {T J D : Type 0} (slots next count : ℕ) where
         within = r.within;
         held_long = r.held_long;
         looks_long = g ∙ r.looks_long;
+        stores_long = ap length h ∙ r.stores_long;
         notes_long = r.notes_long;
         no_claim = r.no_claim;
         home = r.home;
@@ -128,4 +132,4 @@ module _ {T J D : Type 0} (slots next count : ℕ) where
   -- so does a take, once the place was turned behind the others
   pub took_rest : (meets : J → D → Type 0) (m n p : Seated T J D) (d : D) (c : ℕ) → AtRest slots next count m → count ≡ c + 1 → Took meets m next d n → p ≡ (n.0, turned n.1) → AtRest slots ((next + 1) % slots) c p
   took_rest meets m n p d c r counts t is = subst (AtRest slots ((next + 1) % slots) c) (sym is)
-      (took m (n.0, turned n.1) t.x t.xs c r counts t.out (t.leads ∙ r.leads) t.left t.taken (t.held_long ∙ r.held_long) (t.no_claim r.no_claim) t.notes (t.looks_long ∙ r.looks_long) (ap turned t.place))
+      (took m (n.0, turned n.1) t.x t.xs c r counts t.out (t.leads ∙ r.leads) t.left t.taken (t.held_long ∙ r.held_long) (t.no_claim r.no_claim) t.notes (t.looks_long ∙ r.looks_long) (ap length t.stores ∙ (length-set m.0.stores next _ ∙ r.stores_long)) (ap turned t.place))

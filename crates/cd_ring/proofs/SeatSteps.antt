@@ -1,10 +1,10 @@
 -- How seats come and go, and how the ring begins and stops.
-use Rattle.std.proofs.Common.{◌≡◌, ℕ, zero, suc, ◌+◌, ◌<◌, ◌≢◌, true, false, List, [], ◌∷◌, ◌++◌, map, length, get_or, drop, set, replicate, sym, refl, ap, ◌∙◌, subst, inl, ⊎_elim, arith, length-set, get_or-set_other, Some, None}
-use mathlib.Core.Option.{some, some-injective, some-ne-none}
+use Rattle.std.proofs.Common.{◌≡◌, ℕ, zero, suc, ◌+◌, ◌<◌, ◌≢◌, true, false, List, [], ◌∷◌, ◌++◌, map, length, get_or, drop, set, replicate, sym, refl, ap, ◌∙◌, subst, inl, ⊎_elim, arith, length-set, get_or-set_same, get_or-set_other, Some, None}
+use mathlib.Core.Option.{none, some, some-injective, some-ne-none}
 use mathlib.Core.List.{map-append}
 use lib.ListN.{get_elem?, length-map, length-replicate}
 use lib.Seq.{map-set}
-use Rattle.atomic_table.specs.Table.{State, keeps, Allows, Splits, Joins, opening}
+use Rattle.atomic_table.specs.Table.{State, step, keeps, Allows, Splits, Joins, opening}
 use Rattle.atomic_table.proofs.Lists.{at_set, at_snoc, set_here, set_else, set_again, at_map, at_longer}
 use Rattle.cd_ring.specs.declared.view.Place.{Place}
 use Rattle.cd_ring.specs.declared.view.Place.TheVariants.{Empty}
@@ -13,7 +13,7 @@ use Rattle.cd_ring.specs.declared.view.Known.{Known}
 use Rattle.cd_ring.specs.declared.view.View.{View}
 use Rattle.cd_ring.specs.Core.{Phase, free, start}
 use Rattle.cd_ring.specs.Rule.{known, Homes, Holds, Shows, Rule, Ring}
-use Rattle.cd_ring.specs.Kinds.{opening_view, Seated, with_stop, set_stop, spent_view}
+use Rattle.cd_ring.specs.Kinds.{opening_view, stored, Seated, with_stop, set_stop, spent_view}
 use Rattle.cd_ring.proofs.Core.{at_inside, at_replicate}
 use Rattle.cd_ring.proofs.Moves.{good, shows_stays, held_stays}
 use Rattle.cd_ring.proofs.WordSteps.{viewed}
@@ -39,8 +39,8 @@ module _ {T J D : Type 0} (full : T → J → D → Type 0) (task : T) (slots : 
   Told me n i = λ m. Unit {0}
 
   -- the coordinator sets the stop word
-  pub stops : (n id : ℕ) (me : M) → me.0.known.leads ≡ true → Allows Holding n id me slots (λ _. 1) (λ _ m. set_stop me m)
-  stops n id me leads s r wide at _ = let b = coordinator_of meets task slots s r id me.0 at leads in let k = me.0.known in let u = with_stop k in let w : View T J D = record { known = u; looks = me.0.looks } in let all = All s in
+  pub stops : (n id : ℕ) (me : M) → me.0.known.leads ≡ true → Allows Holding n id me slots (λ _. 1) (λ _ m. set_stop (step n slots 1 0 none) me 1 m)
+  stops n id me leads s r wide at _ = let b = coordinator_of meets task slots s r id me.0 at leads in let k = me.0.known in let u = with_stop k in let w : View T J D = record { known = u; looks = me.0.looks; stores = stored me.0.stores slots 1 None } in let all = All s in
       let at' : get_elem? all id ≡ some k = at_map known s.views id me.0 at in let o = good meets task slots s.words s.homes all r in (
         w,
         keeps,
@@ -72,13 +72,13 @@ module _ {T J D : Type 0} (full : T → J → D → Type 0) (task : T) (slots : 
               (λ (t : (j ≡ id) × (u ≡ x)). r.held j k i y (subst (λ (z : ℕ). get_elem? all z ≡ some k) (sym t.0) at') (subst (λ (z : Known T J D). Holds z i y) (sym t.1) h))
               (λ (t : (j ≢ id) × (get_elem? all j ≡ some x)). r.held j x i y t.1 h)
               (at_set all id j u x e);
-          stop = λ _. refl;
+          stop = (λ _. refl, λ _. get_or-set_same s.words slots 1 0 (subst (λ (z : ℕ). slots < z) (sym r.wide) (omega arith)));
         },
-        (refl, refl, refl),
+        (refl, refl, refl, refl),
       )
 
-  pub stops_at : (n id : ℕ) (me : M) (i : ℕ) → i ≡ slots → me.0.known.leads ≡ true → Allows Holding n id me i (λ _. 1) (λ _ m. set_stop me m)
-  stops_at n id me i is leads = subst (λ (z : ℕ). Allows Holding n id me z (λ _. 1) (λ _ m. set_stop me m)) (sym is) (stops n id me leads)
+  pub stops_at : (n id : ℕ) (me : M) (i : ℕ) → i ≡ slots → me.0.known.leads ≡ true → Allows Holding n id me i (λ _. 1) (λ _ m. set_stop (step n i 1 0 none) me 1 m)
+  stops_at n id me i is leads = subst (λ (z : ℕ). Allows Holding n id me z (λ _. 1) (λ _ m. set_stop (step n z 1 0 none) me 1 m)) (sym is) (stops n id me leads)
 
   -- a seat that knows nothing and holds nothing
   abbrev pub Idle : Known T J D → Type 0
@@ -191,7 +191,7 @@ begins {T} {J} {D} meets task slots ws xs some_slot zeros empty = let b : Known 
       subst (λ (g : Phase D). Shows ws (map some xs) b.notes (b ∷ []) [] i g) (at_replicate slots i free f e)
       (ap (λ (z : List ℕ). get_or z i 0) zeros ∙ at_zeros (slots + 1) i, inl (at_all slots i Home near, at_map some xs i Empty (ap (λ (z : List (Place J D)). get_elem? z i) empty ∙ at_all slots i Empty near)));
   held = λ j v i x e h. let same : b ≡ v = first j v e in let z : None ≡ Some x = at_replicate slots i None (Some x) (subst (λ (q : Known T J D). Holds q i x) (sym same) h) in cc;
-  stop = λ e. let z : 0 ≡ 1 = sym (ap (λ (q : List ℕ). get_or q slots 0) zeros ∙ at_zeros (slots + 1) slots) ∙ e in absurd (omega arith);
+  stop = (λ e. let z : 0 ≡ 1 = sym (ap (λ (q : List ℕ). get_or q slots 0) zeros ∙ at_zeros (slots + 1) slots) ∙ e in absurd (omega arith), λ e. let z : false ≡ true = e in cc);
 }
   where
     one : (j : ℕ) (v : Known T J D) → get_elem? ((opening_view {J = J} {D = D} task slots).known ∷ []) j ≡ some v → j ≡ 0

@@ -5,13 +5,15 @@ use lib.ListN.{get_elem?}
 use Rattle.atomic_table.proofs.Lists.{at_set}
 use Rattle.cd_ring.specs.declared.view.Note.TheVariants.{Spare, Met}
 use Rattle.cd_ring.specs.declared.view.Look.{Look}
+use Rattle.cd_ring.specs.declared.view.Store.{Store}
 use Rattle.cd_ring.specs.declared.view.Known.{Known}
-use Rattle.cd_ring.specs.Kinds.{Seated, with_take, became}
+use Rattle.cd_ring.specs.Kinds.{Seated, stored, with_take, became}
+use Rattle.cd_ring.specs.Rule.{FREE}
 use Rattle.cd_ring.specs.Rest.{FoundJob, FoundResult, Took}
 
 module _ {T J D : Type 0} (meets : J → D → Type 0) where
   abbrev pub Freed : Seated T J D → ℕ → Seated T J D → Type 0
-  Freed n i p = (x : J) × (xs : List J) × (n.0.known.out ≡ x ∷ xs) × became (with_take n.0.known i xs) n.1 n p
+  Freed n i p = (x : J) × (xs : List J) × (n.0.known.out ≡ x ∷ xs) × became (with_take n.0.known i xs) n.1 i FREE None n p
 
   not_held : (k : Known T J D) (i : ℕ) (h : Option J) → ((j : ℕ) (y : J) → j ≢ i → get_elem? k.held j ≡ some (Some y) → ⊥)
       → (j : ℕ) (y : J) → get_elem? (set k.held i None) j ≡ some (Some y) → ⊥
@@ -41,7 +43,8 @@ module _ {T J D : Type 0} (meets : J → D → Type 0) where
             j y (sym (ap (λ (k : Known T J D). get_elem? k.held j) to) ∙ e);
         notes = ap (λ (k : Known T J D). k.notes) to ∙ ap (λ (k : Known T J D). set k.notes i Spare) known;
         place = freed.3.2 ∙ found.2.1;
-        looks_long = ap (λ (l : List Look). length l) (freed.3.1 ∙ found.2.2) ∙ length-set m.0.looks i _;
+        looks_long = ap (λ (l : List Look). length l) (freed.3.1 ∙ found.2.2.0) ∙ length-set m.0.looks i _;
+        stores = freed.3.3 ∙ ap (λ (l : List (Store J D)). stored l i FREE None) found.2.2.1;
       }
 
   pub took_result : (m n p : Seated T J D) (i : ℕ) (d : D) → FoundResult meets m i d n → Freed n i p → Took meets m i d p
@@ -62,5 +65,6 @@ module _ {T J D : Type 0} (meets : J → D → Type 0) where
             j y (sym (ap (λ (k : Known T J D). get_elem? k.held j) to) ∙ e);
         notes = ap (λ (k : Known T J D). k.notes) to ∙ (ap (λ (k : Known T J D). set k.notes i Spare) known ∙ set-set m.0.known.notes i (Met d) Spare);
         place = freed.3.2 ∙ found.5;
-        looks_long = ap (λ (l : List Look). length l) (freed.3.1 ∙ found.6.1) ∙ length-set m.0.looks i _;
+        looks_long = ap (λ (l : List Look). length l) (freed.3.1 ∙ found.6.1.0) ∙ length-set m.0.looks i _;
+        stores = freed.3.3 ∙ ap (λ (l : List (Store J D)). stored l i FREE None) found.6.1.1;
       }

@@ -9,7 +9,7 @@ use Rattle.cd_ring.specs.declared.view.Place.{Place}
 use Rattle.cd_ring.specs.declared.view.Place.TheVariants.{Empty}
 use Rattle.cd_ring.specs.declared.view.Note.TheVariants.{Home, Spare}
 use Rattle.cd_ring.specs.declared.view.Known.{Known}
-use Rattle.cd_ring.specs.Kinds.{Seated, opening_view, no_look, with_note}
+use Rattle.cd_ring.specs.Kinds.{Seated, opening_view, no_look, no_store, with_note}
 use Rattle.cd_ring.specs.Rest.{spares, AtRest}
 use Rattle.cd_ring.specs.Opening.{IsTakingPlaces}
 use Rattle.cd_ring.proofs.Core.{at_replicate}
@@ -32,15 +32,16 @@ module _ {T J D : Type 0} (task : T) (slots : ℕ) where
     stopped_is = refl;
     notes_long = length-replicate slots Home;
     looks_long = length-replicate (slots + 1) no_look;
+    stores_long = length-replicate (slots + 1) no_store;
     low = omega arith;
     home = λ k near. at_all slots k Home near;
     spare = λ k a b. absurd (omega arith);
     places = ap (λ (z : ℕ). spares {J = J} {D = D} slots slots z) (let h : zero ≡ slots - slots = omega arith in h);
   }
 
-  pub takes_one_place : (left : ℕ) (m n : Seated T J D) → IsTakingPlaces task slots (left + 1) m → n.0.known ≡ with_note m.0.known left Spare → n.1 ≡ (left, Empty) ∷ m.1 → length n.0.looks ≡ length m.0.looks
+  pub takes_one_place : (left : ℕ) (m n : Seated T J D) → IsTakingPlaces task slots (left + 1) m → n.0.known ≡ with_note m.0.known left Spare → n.1 ≡ (left, Empty) ∷ m.1 → length n.0.looks ≡ length m.0.looks → length n.0.stores ≡ length m.0.stores
       → IsTakingPlaces task slots left n
-  takes_one_place left m n f e p g = let low : left + 1 ≤ slots = f.low in let near : left < slots = omega arith in let note : (k : ℕ) → get_elem? n.0.known.notes k ≡ get_elem? (set m.0.known.notes left Spare) k = λ k. ap (λ (z : Known T J D). get_elem? z.notes k) e in record {
+  takes_one_place left m n f e p g h = let low : left + 1 ≤ slots = f.low in let near : left < slots = omega arith in let note : (k : ℕ) → get_elem? n.0.known.notes k ≡ get_elem? (set m.0.known.notes left Spare) k = λ k. ap (λ (z : Known T J D). get_elem? z.notes k) e in record {
     leads = ap (λ (z : Known T J D). z.leads) e ∙ f.leads;
     task_is = ap (λ (z : Known T J D). z.task) e ∙ f.task_is;
     out_is = ap (λ (z : Known T J D). z.out) e ∙ f.out_is;
@@ -49,6 +50,7 @@ module _ {T J D : Type 0} (task : T) (slots : ℕ) where
     stopped_is = ap (λ (z : Known T J D). z.stopped) e ∙ f.stopped_is;
     notes_long = ap (λ (z : Known T J D). length z.notes) e ∙ (length-set m.0.known.notes left Spare ∙ f.notes_long);
     looks_long = g ∙ f.looks_long;
+    stores_long = h ∙ f.stores_long;
     low = omega arith;
     home = λ k below. note k ∙ (set_else m.0.known.notes left k Spare (λ z. omega arith) ∙ f.home k (omega arith));
     spare = λ k above below. dite (ℕ_discrete k left)
@@ -66,6 +68,7 @@ module _ {T J D : Type 0} (task : T) (slots : ℕ) where
     within = omega arith;
     held_long = ap length f.held_is ∙ length-replicate slots None;
     looks_long = f.looks_long;
+    stores_long = f.stores_long;
     notes_long = f.notes_long;
     no_claim = λ i x e. let z : None ≡ Some x = at_replicate slots i None (Some x) (sym (ap (λ (l : List (Option J)). get_elem? l i) f.held_is) ∙ e) in cc;
     home = λ k none. absurd (omega arith);

@@ -15,7 +15,7 @@ use Rattle.cd_ring.specs.declared.view.View.{View}
 use Rattle.cd_ring.specs.Core.{Phase, free, ready, taken, done, Core, Event, post, claim, finish, take, number, with_phase, posted_one, taken_one, After, Ordered}
 use Rattle.cd_ring.specs.Core as core
 use Rattle.cd_ring.specs.Rule.{READY, TAKEN, DONE, known, Homes, Holds, Shows, Rule, Ring}
-use Rattle.cd_ring.specs.Kinds.{noted, Seated, loaded, with_held, claimed, became}
+use Rattle.cd_ring.specs.Kinds.{noted, stored, Seated, loaded, with_held, claimed, marked_done}
 use Rattle.cd_ring.proofs.Core.{at_inside}
 use Rattle.cd_ring.proofs.Moves.{good, phase_at, moved, unmoved}
 
@@ -51,7 +51,7 @@ module _ {T J D : Type 0} (meets : J → D → Type 0) (task : T) (slots : ℕ) 
   Goes s k id me then x = (w : View T J D) × (a : Act (Place J D)) × Valid s.homes me.1 a × Holding (stepped s k x id me.1 w a) × then (get_or s.words k 0) (w, carried_after me.1 a)
 
   abbrev pub seen : View T J D → ℕ → ℕ → Known T J D → View T J D
-  seen v i r u = record { known = u; looks = noted v.looks i r }
+  seen v i r u = record { known = u; looks = noted v.looks i r; stores = v.stores }
 
   pub viewed : (s : S) (i x id : ℕ) (homes' : Homes J D) (w : View T J D) → Rule meets task slots (set s.words i x) homes' (set (map known s.views) id w.known) → Holding record { words = set s.words i x; homes = homes'; views = set s.views id w }
   viewed s i x id homes' w r = subst (Rule meets task slots (set s.words i x) homes') (sym (map-set known s.views id w)) r
@@ -62,7 +62,7 @@ module _ {T J D : Type 0} (meets : J → D → Type 0) (task : T) (slots : ℕ) 
   stands s r k id me then at told = let w = seen me.0 k (get_or s.words k 0) me.0.known in (w, keeps, tt, unmoved meets task slots s r k id me.0 w at refl, told)
 
   pub looks : (n id : ℕ) (me : M) (i : ℕ) → Allows Holding n id me i (λ x. x) (loaded (step n i 0 0 none) me)
-  looks n id me i s r wide at _ = stands s r i id me (loaded (step n i 0 0 none) me) at (refl, (refl, refl))
+  looks n id me i s r wide at _ = stands s r i id me (loaded (step n i 0 0 none) me) at ((refl, refl), (refl, refl))
 
   -- the slot i of the seat id goes on to f, and the seat's claim of it to h
   held_moved : (s : S) (r : Holding s) (i w id : ℕ) (v : View T J D) (h : Option J) (e : Event J D) (homes' : Homes J D) (f : Phase D)
@@ -80,11 +80,11 @@ module _ {T J D : Type 0} (meets : J → D → Type 0) (task : T) (slots : ℕ) 
       (λ is. let same : r.coordinator ≡ v.known = some-injective r.coordinator v.known (sym (subst (λ (z : ℕ). get_elem? all z ≡ some r.coordinator) is r.leads) ∙ at') in
       moved meets task slots s.words s.homes all r i w id v.known u (with_held r.coordinator i h) (e ∷ r.events) (with_phase r.core i f) homes' f near (r.core, r.after, did) at'
       (subst (λ (z : ℕ). get_elem? (set all id u) z ≡ some u) (sym is) (set_here all id u (at_inside all id v.known at')) ∙ ap (λ (z : Known T J D). some (with_held z i h)) (sym same))
-      r.coordinator_leads (λ x. x) r.task_is r.taken_is r.out_is r.notes_long (λ x. x) refl (λ p x y. y) as_long home (λ k _. refl)
+      r.coordinator_leads (λ x. x) r.task_is r.taken_is r.out_is r.notes_long refl refl (λ p x y. y) as_long home (λ k _. refl)
       (λ k other. set_else v.known.held i k h other) here mine theirs)
       (λ other. moved meets task slots s.words s.homes all r i w id v.known u r.coordinator (e ∷ r.events) (with_phase r.core i f) homes' f near (r.core, r.after, did) at'
       (set_else all id r.lead u other ∙ r.leads)
-      r.coordinator_leads (λ x. x) r.task_is r.taken_is r.out_is r.notes_long (λ x. x) refl (λ p x y. y) as_long home (λ k _. refl)
+      r.coordinator_leads (λ x. x) r.task_is r.taken_is r.out_is r.notes_long refl refl (λ p x y. y) as_long home (λ k _. refl)
       (λ k other. set_else v.known.held i k h other) here mine theirs)
 
   -- a claim of a slot that is ready
@@ -124,17 +124,17 @@ module _ {T J D : Type 0} (meets : J → D → Type 0) (task : T) (slots : ℕ) 
       (λ hit. let ph = phase_at meets task slots s.words s.homes (map known s.views) r i near in let goes = claim_goes s r i id me near held_near at hit ph.0 ph.1 ph.2 in let got = goes.2 in let x : J = got.0 in
       let free_before = not_held s r i id me goes.0 held_near at (ph.1 ∙ ap some goes.1) in
       let w = seen me.0 i y (with_held me.0.known i (Some x)) in
-      (w, takes i (Job x), got.2, viewed s i TAKEN id (set s.homes i none) w got.3, (refl, (λ _. (x, free_before, (refl, refl))), λ miss. absurd (miss hit))))
-      (λ miss. stands s r i id me told at (refl, (λ hit. absurd (miss hit)), λ _. (refl, refl)))
+      (w, takes i (Job x), got.2, viewed s i TAKEN id (set s.homes i none) w got.3, ((refl, refl), (λ _. (x, free_before, (refl, refl))), λ miss. absurd (miss hit))))
+      (λ miss. stands s r i id me told at ((refl, refl), (λ hit. absurd (miss hit)), λ _. (refl, refl)))
 
   -- a worker's slot is done
   pub finishes : (n id : ℕ) (me : M) (i : ℕ) (x : J) (d : D) → Holds me.0.known i x → meets x d → (c : List (ℕ × Place J D)) → me.1 ≡ (i, Result d) ∷ c
-      → Allows Holding n id me i (λ _. DONE) (λ _ m. became (with_held me.0.known i None) (rest me.1) me m)
+      → Allows Holding n id me i (λ _. DONE) (λ _ m. marked_done (step n i DONE 0 none) me DONE m)
   finishes n id me i x d has met c placed s r wide at _ = let all = map known s.views in let at' : get_elem? all id ≡ some me.0.known = at_map known s.views id me.0 at in
       let old = r.held id me.0.known i x at' has in let p : ℕ = old.0 in let sh = r.shows i (taken p id) old.1 in let inside : i < length r.core.phases = at_inside r.core.phases i (taken p id) old.1 in
       let near : i < slots = subst (λ (z : ℕ). i < z) (good meets task slots s.words s.homes all r).long inside in
       let room : i < length s.words = subst (λ (z : ℕ). i < z) (sym r.wide) (omega arith) in let far : i < length s.homes = subst (λ (z : ℕ). i < z) (sym r.places) near in
-      let w : View T J D = record { known = with_held me.0.known i None; looks = me.0.looks } in (
+      let w : View T J D = record { known = with_held me.0.known i None; looks = me.0.looks; stores = stored me.0.stores i DONE (Some (Result d)) } in (
         w,
         gives,
         tt,
@@ -145,5 +145,5 @@ module _ {T J D : Type 0} (meets : J → D → Type 0) (task : T) (slots : ℕ) 
             (get_or-set_same s.words i DONE 0 room, inl (sh.1, set_here s.homes i (some (Result d)) far))
             (λ y e. cc)
             (λ j q other e. other (let same : taken p id ≡ taken q j = some-injective (taken p id) (taken q j) (sym old.1 ∙ e) in cc)))),
-        (refl, refl, refl),
+        (d, c, placed, (refl, refl, ap rest placed, refl)),
       )

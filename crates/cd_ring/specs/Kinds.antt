@@ -1,11 +1,12 @@
 -- What each step of a seat tells: of the seat before, the word that it met, and the seat after.
 use Rattle.std.specs.Prelude.{◌≡◌, ℕ, ◌+◌, true, List, [], ◌∷◌, ◌++◌, Option, Some, None, slice_index_or, slice_set, map, replicate, false}
-use Rattle.atomic_table.specs.Table.{Me, Step, rest}
+use Rattle.atomic_table.specs.Table.{Me, Step}
 use Rattle.cd_ring.specs.declared.view.Place.{Place}
 use Rattle.cd_ring.specs.declared.view.Place.TheVariants.{Empty, Job, Result}
 use Rattle.cd_ring.specs.declared.view.Note.{Note}
 use Rattle.cd_ring.specs.declared.view.Note.TheVariants.{Home, Spare, Met}
 use Rattle.cd_ring.specs.declared.view.Look.{Look}
+use Rattle.cd_ring.specs.declared.view.Store.{Store}
 use Rattle.cd_ring.specs.declared.view.Known.{Known}
 use Rattle.cd_ring.specs.declared.view.View.{View}
 use mathlib.Core.Option.{some}
@@ -21,12 +22,24 @@ look_at looks i = slice_index_or looks i record { times = 0; met = 0 }
 abbrev pub noted : List Look → ℕ → ℕ → List Look
 noted looks i r = slice_set looks i record { times = (look_at looks i).times + 1; met = r }
 
+abbrev pub no_store : {J D : Type 0} → Store J D
+no_store = record { times = 0; number = 0; given = None }
+
+-- how often a word was stored at, the number stored last, and what lay in the place given back with it
+abbrev pub store_at : {J D : Type 0} → List (Store J D) → ℕ → Store J D
+store_at stores i = slice_index_or stores i no_store
+
+-- a store of r at the word i, with what lies in the place given back, or None
+abbrev pub stored : {J D : Type 0} → List (Store J D) → ℕ → ℕ → Option (Place J D) → List (Store J D)
+stored stores i r given = slice_set stores i record { times = (store_at stores i).times + 1; number = r; given = given }
+
 abbrev pub Seated : Type 0 → Type 0 → Type 0 → Type 0
 Seated T J D = Me (Place J D) (View T J D)
 
 module _ {T J D : Type 0} where
+  -- the look is noted, and no store
   abbrev pub Saw : Seated T J D → ℕ → ℕ → Seated T J D → Type 0
-  Saw m i r n = n.0.looks ≡ noted m.0.looks i r
+  Saw m i r n = (n.0.looks ≡ noted m.0.looks i r) × (n.0.stores ≡ m.0.stores)
 
   abbrev pub Stays : Seated T J D → Seated T J D → Type 0
   Stays m n = (n.0.known ≡ m.0.known) × (n.1 ≡ m.1)
@@ -119,9 +132,9 @@ module _ {T J D : Type 0} where
       × (r ≡ DONE → Meets meets m st.word n)
       × ((r ≡ READY → ⊥) → (r ≡ DONE → ⊥) → (r ≡ TAKEN) × Stays m n)
 
-  -- a store that gives the place back, or keeps it
-  abbrev pub became : Known T J D → List (ℕ × Place J D) → Seated T J D → Seated T J D → Type 0
-  became k c m n = (n.0.known ≡ k) × (n.0.looks ≡ m.0.looks) × (n.1 ≡ c)
+  -- a store of r at the word i, which gives a place back with what lies in it, or keeps the places. It is noted, and no look
+  abbrev pub became : Known T J D → List (ℕ × Place J D) → ℕ → ℕ → Option (Place J D) → Seated T J D → Seated T J D → Type 0
+  became k c i r given m n = (n.0.known ≡ k) × (n.0.looks ≡ m.0.looks) × (n.1 ≡ c) × (n.0.stores ≡ stored m.0.stores i r given)
 
   -- a load before the first post, which takes the place of a free slot
   abbrev pub took_place : Step (Place J D) → Seated T J D → ℕ → Seated T J D → Type 0
@@ -129,19 +142,21 @@ module _ {T J D : Type 0} where
       × (n.1 ≡ (st.word, Empty) ∷ m.1)
 
   -- the job that lies in the place goes to its slot
-  abbrev pub marked_ready : Step (Place J D) → Seated T J D → Seated T J D → Type 0
-  marked_ready st m n = (x : J) × (c : List (ℕ × Place J D)) × (m.1 ≡ (st.word, Job x) ∷ c)
-      × became (with_post m.0.known st.word x) c m n
+  abbrev pub marked_ready : Step (Place J D) → Seated T J D → ℕ → Seated T J D → Type 0
+  marked_ready st m r n = (x : J) × (c : List (ℕ × Place J D)) × (m.1 ≡ (st.word, Job x) ∷ c)
+      × became (with_post m.0.known st.word x) c st.word r (Some (Job x)) m n
 
-  abbrev pub marked_done : Step (Place J D) → Seated T J D → Seated T J D → Type 0
-  marked_done st m n = became (with_held m.0.known st.word None) (rest m.1) m n
+  -- the result that lies in the place goes to its slot, and the claim is given up
+  abbrev pub marked_done : Step (Place J D) → Seated T J D → ℕ → Seated T J D → Type 0
+  marked_done st m r n = (d : D) × (c : List (ℕ × Place J D)) × (m.1 ≡ (st.word, Result d) ∷ c)
+      × became (with_held m.0.known st.word None) c st.word r (Some (Result d)) m n
 
-  abbrev pub marked_free : Step (Place J D) → Seated T J D → Seated T J D → Type 0
-  marked_free st m n = (x : J) × (xs : List J) × (m.0.known.out ≡ x ∷ xs)
-      × became (with_take m.0.known st.word xs) m.1 m n
+  abbrev pub marked_free : Step (Place J D) → Seated T J D → ℕ → Seated T J D → Type 0
+  marked_free st m r n = (x : J) × (xs : List J) × (m.0.known.out ≡ x ∷ xs)
+      × became (with_take m.0.known st.word xs) m.1 st.word r None m n
 
-  abbrev pub set_stop : Seated T J D → Seated T J D → Type 0
-  set_stop m n = became (with_stop m.0.known) m.1 m n
+  abbrev pub set_stop : Step (Place J D) → Seated T J D → ℕ → Seated T J D → Type 0
+  set_stop st m r n = became (with_stop m.0.known) m.1 st.word r None m n
 
 abbrev pub no_look : Look
 no_look = record { times = 0; met = 0 }
@@ -159,6 +174,7 @@ opening_view task slots = record {
     stopped = false;
   };
   looks = replicate (slots + 1) no_look;
+  stores = replicate (slots + 1) no_store;
 }
 
 -- a new worker's view
@@ -174,6 +190,7 @@ worker_view v = record {
     stopped = false;
   };
   looks = map (λ _. no_look) v.looks;
+  stores = map (λ _. no_store) v.stores;
 }
 
 -- what a joined seat leaves
@@ -181,4 +198,5 @@ abbrev pub spent_view : {T J D : Type 0} → View T J D
 spent_view = record {
   known = record { leads = false; task = None; out = []; taken = 0; held = []; notes = []; stopped = false };
   looks = [];
+  stores = [];
 }

@@ -15,6 +15,7 @@ pub record IsTakingPlaces {T J D : Type 0} (task : T) (slots left : ℕ) (m : Se
   pub stopped_is : m.0.known.stopped ≡ false
   pub notes_long : length m.0.known.notes ≡ slots
   pub looks_long : length m.0.looks ≡ slots + 1
+  pub stores_long : length m.0.stores ≡ slots + 1
   pub low : left ≤ slots
   pub home : (k : ℕ) → k < left → get_elem? m.0.known.notes k ≡ some Home
   pub spare : (k : ℕ) → left ≤ k → k < slots → get_elem? m.0.known.notes k ≡ some Spare

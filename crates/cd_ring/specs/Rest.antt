@@ -7,9 +7,9 @@ use Rattle.cd_ring.specs.declared.view.Place.{Place}
 use Rattle.cd_ring.specs.declared.view.Place.TheVariants.{Empty}
 use Rattle.cd_ring.specs.declared.view.Note.TheVariants.{Home, Spare}
 use Rattle.cd_ring.specs.declared.view.View.{View}
-use Rattle.cd_ring.specs.Rule.{READY, TAKEN}
+use Rattle.cd_ring.specs.Rule.{FREE, READY, TAKEN}
 use Rattle.cd_ring.specs.Claims.{HasNoClaim, are_places_of}
-use Rattle.cd_ring.specs.Kinds.{Seated, noted, with_held, with_note}
+use Rattle.cd_ring.specs.Kinds.{Seated, noted, stored, with_held, with_note}
 
 -- k places of slots, from that of the number p on
 abbrev pub spares : {J D : Type 0} → ℕ → ℕ → ℕ → List (ℕ × Place J D)
@@ -26,6 +26,7 @@ module _ {T J D : Type 0} where
     pub within : count ≤ slots
     pub held_long : length m.0.known.held ≡ slots
     pub looks_long : length m.0.looks ≡ slots + 1
+    pub stores_long : length m.0.stores ≡ slots + 1
     pub notes_long : length m.0.known.notes ≡ slots
     pub no_claim : HasNoClaim m.0.known.held
     pub home : (k : ℕ) → k < count → get_elem? m.0.known.notes ((m.0.known.taken + k) % slots) ≡ some Home
@@ -43,11 +44,12 @@ module _ {T J D : Type 0} where
     pub follows : m.0.known.leads ≡ false
     pub held_long : length m.0.known.held ≡ slots
     pub looks_long : length m.0.looks ≡ slots + 1
+    pub stores_long : length m.0.stores ≡ slots + 1
     pub places : are_places_of m.1 m.0.known.held ≡ true
 
-  -- the slot was looked at, and r was met
+  -- the slot was looked at, r was met, and nothing was stored
   abbrev pub Looked : Seated T J D → ℕ → ℕ → Seated T J D → Type 0
-  Looked m i r n = n.0.looks ≡ noted m.0.looks i r
+  Looked m i r n = (n.0.looks ≡ noted m.0.looks i r) × (n.0.stores ≡ m.0.stores)
 
   -- the slot was looked at and was not READY, and nothing else changed
   abbrev pub Missed : Seated T J D → ℕ → Seated T J D → Type 0
@@ -91,3 +93,4 @@ module _ {T J D : Type 0} where
     pub notes : n.0.known.notes ≡ slice_set m.0.known.notes i Spare
     pub place : n.1 ≡ (i, Empty) ∷ m.1
     pub looks_long : length n.0.looks ≡ length m.0.looks
+    pub stores : n.0.stores ≡ stored m.0.stores i FREE None

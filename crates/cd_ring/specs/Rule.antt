@@ -1,6 +1,6 @@
 -- The rule of the running ring. Between any two steps its words, places and views show a state of the core.
 -- Word i is that of slot i, and the word after the last slot's is the stop word.
-use Rattle.std.specs.Prelude.{◌≡◌, ℕ, ◌+◌, ◌<◌, ◌⊎◌, true, List, map, length, drop, Some, slice_index_or}
+use Rattle.std.specs.Prelude.{◌≡◌, ℕ, ◌+◌, ◌<◌, ◌⊎◌, ◌↔◌, true, List, map, length, drop, Some, slice_index_or}
 use mathlib.Core.Option.{none, some}
 use mathlib.Core.Option as maybe
 use lib.ListN.{get_elem?}
@@ -16,19 +16,23 @@ use Rattle.cd_ring.specs.Core.{Phase, free, ready, taken, done, Core, Event, Aft
 abbrev pub known : {T J D : Type 0} → View T J D → Known T J D
 known v = v.known
 
--- no word of the ring is a state's but these four
+-- the word of a slot in which no job stands
 abbrev pub FREE : ℕ
 FREE = 0
 
+-- the word of a slot whose job waits for whoever is free
 abbrev pub READY : ℕ
 READY = 1
 
+-- the word of a slot whose job a seat has claimed
 abbrev pub TAKEN : ℕ
 TAKEN = 2
 
+-- the word of a slot whose job has a result
 abbrev pub DONE : ℕ
 DONE = 3
 
+-- of each place what it holds while it is at home
 abbrev pub Homes : Type 0 → Type 0 → Type 0
 Homes J D = List (maybe.Option (Place J D))
 
@@ -79,7 +83,8 @@ module _ {T J D : Type 0} where
     -- where the word is not TAKEN, no view holds the slot
     pub held : (j : ℕ) (v : Known T J D) (i : ℕ) (x : J) → get_elem? all j ≡ some v → Holds v i x
         → (p : ℕ) × (get_elem? core.phases i ≡ some (taken p j)) × (get_elem? core.posted p ≡ some x)
-    pub stop : slice_index_or words slots 0 ≡ 1 → coordinator.stopped ≡ true
+    -- the stop word is set exactly where the coordinator's view says so
+    pub stop : (slice_index_or words slots 0 ≡ 1) ↔ (coordinator.stopped ≡ true)
 
   -- the rule of the table
   abbrev pub Ring : (J → D → Type 0) → T → ℕ → State (Place J D) (View T J D) → Type 0

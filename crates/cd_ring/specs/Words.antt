@@ -1,9 +1,10 @@
 -- What the clauses of the calls say of a ring and of its seats.
-use Rattle.std.specs.Prelude.{◌≡◌, ℕ, ◌%◌, Bool, List, Option, Some}
+use Rattle.std.specs.Prelude.{◌≡◌, ℕ, ◌+◌, ◌%◌, Bool, List, length, Option, Some}
 use mathlib.Core.Option.{some}
 use lib.ListN.{get_elem?}
 use Rattle.cd_ring.specs.declared.task.Task.{Ghosts}
 use Rattle.cd_ring.specs.declared.view.Look.{Look}
+use Rattle.cd_ring.specs.declared.view.Store.{Store}
 use Rattle.cd_ring.specs.declared.ring.Ring.{Ring}
 use Rattle.cd_ring.specs.declared.ring.Post.{Post}
 use Rattle.cd_ring.specs.declared.ring.Work.{Work}
@@ -41,6 +42,10 @@ module _ {T J D : Type 0} {g : Ghosts T J D} where
   abbrev pub oldest_slot : Post T J D g → ℕ
   oldest_slot post = results_taken post % room_of post
 
+  -- the slot of the next job that is posted
+  abbrev pub next_slot : Post T J D g → ℕ
+  next_slot post = (results_taken post + length (jobs_out post)) % room_of post
+
   -- the jobs that the coordinator holds by a claim, of each slot
   abbrev pub own_claims : Post T J D g → List (Option J)
   own_claims post = post.seat.me.0.known.held
@@ -53,6 +58,10 @@ module _ {T J D : Type 0} {g : Ghosts T J D} where
   abbrev pub looks_of : Post T J D g → List Look
   looks_of post = post.seat.me.0.looks
 
+  -- the stores of the coordinator at each word
+  abbrev pub stores_of : Post T J D g → List (Store J D)
+  stores_of post = post.seat.me.0.stores
+
   -- a worker's seat is one of this ring
   abbrev pub IsWorkOf : Ring T J D → Work T J D g → Type 0
   IsWorkOf ring work = work.seat.table_id ≡ ring.table.shared.table_id
@@ -64,6 +73,10 @@ module _ {T J D : Type 0} {g : Ghosts T J D} where
   -- the looks of a worker at each word
   abbrev pub looks : Work T J D g → List Look
   looks work = work.seat.me.0.looks
+
+  -- the stores of a worker at each word
+  abbrev pub stores : Work T J D g → List (Store J D)
+  stores work = work.seat.me.0.stores
 
   -- the worker holds the slot of this claim with its job
   abbrev pub HasClaim : Work T J D g → Claim J → Type 0

@@ -1,4 +1,5 @@
-//! The kinds of steps on a word, and how seats are made and joined. These types are for the proofs alone.
+//! The kinds of steps on a word, and how seats are made and joined. These types are for the proofs alone. They are part of
+//! what is stated: what a call says of its looks and its stores rests on the kinds of steps that it makes.
 ghost use Rattle.cd_ring.specs.Kinds.{loaded, brought, claimed, claimed_oldest, took_place};
 ghost use Rattle.cd_ring.specs.Kinds.{marked_ready, marked_done, marked_free, set_stop, worker_view, spent_view};
 
@@ -45,28 +46,28 @@ impl<T: Task> Play<Place<T::Job, T::Done>, View<T, T::Job, T::Done>> for ClaimsO
 pub struct MarksReady;
 
 impl<T, J, D> Play<Place<J, D>, View<T, J, D>> for MarksReady {
-    ghost then = { λ s m r n. marked_ready s m n };
+    ghost then = { marked_ready };
 }
 
 /// Mark DONE: a worker's store that gives up its claim with the result laid.
 pub struct MarksDone;
 
 impl<T, J, D> Play<Place<J, D>, View<T, J, D>> for MarksDone {
-    ghost then = { λ s m r n. marked_done s m n };
+    ghost then = { marked_done };
 }
 
 /// Mark FREE: the coordinator's store once it has the oldest job's result.
 pub struct MarksFree;
 
 impl<T, J, D> Play<Place<J, D>, View<T, J, D>> for MarksFree {
-    ghost then = { λ s m r n. marked_free s m n };
+    ghost then = { marked_free };
 }
 
 /// The coordinator's store to the stop word.
 pub struct SetsStop;
 
 impl<T, J, D> Play<Place<J, D>, View<T, J, D>> for SetsStop {
-    ghost then = { λ s m r n. set_stop m n };
+    ghost then = { set_stop };
 }
 
 /// The making and the joining of a worker's seat.

@@ -16,7 +16,7 @@ pub fn core_stays_ordered<T: Task>(_task: &T)
 {}
 
 /// Between any two steps the words, places and views of a ring show a core that is ordered, and the jobs out in the
-/// coordinator's view are those of the core.
+/// coordinator's view are those of the core. Each word tells what its place and the views hold, as `WordTells` says.
 pub fn ring_shows_an_ordered_core<T: Task>(_task: &T)
     ensures { (slots : ℕ) (words : List ℕ) (homes : Homes T.Job T.Done) (all : List (Known T T.Job T.Done)) →
         Rule (T.meets _task.now) _task.now slots words homes all →

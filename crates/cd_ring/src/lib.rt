@@ -52,5 +52,5 @@ pub use laws::{core_stays_ordered, results_come_in_order, ring_shows_an_ordered_
 pub use post::Taken;
 pub use ring::{Jobs, Post, Ring, RingSeat, Work};
 pub use task::Task;
-pub use view::{Known, Look, Note, Place, Setup, View};
+pub use view::{Known, Look, Note, Place, Setup, Store, View};
 pub use work::Claim;

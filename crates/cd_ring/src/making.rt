@@ -32,6 +32,13 @@ fn empties<J: Drop, D: Drop>(alloc: Global, count: usize) -> Result<Vec<Place<J,
 }
 
 impl<T: Task> Ring<T> {
+    /// The task that `new` took.
+    pub fn task(&self) -> &T
+        ensures { result.now ≡ task_of self.now }
+    {
+        &self.setup.task
+    }
+
     // Takes the place of a free slot, before the first post.
     fn take_place(&self, seat: &mut RingSeat<T, T::Job, T::Done>, slot: u32)
         requires ring { seat.old.table_id ≡ self.now.table.shared.table_id }
@@ -40,7 +47,8 @@ impl<T: Task> Ring<T> {
         ensures ring { (seat.new.table_id ≡ seat.old.table_id) × (seat.new.id ≡ seat.old.id) }
         ensures taken { (seat.new.me.0.known ≡ with_note seat.old.me.0.known slot Spare)
             × (seat.new.me.1 ≡ (slot, Empty) ∷ seat.old.me.1)
-            × (length seat.new.me.0.looks ≡ length seat.old.me.0.looks) }
+            × (length seat.new.me.0.looks ≡ length seat.old.me.0.looks)
+            × (length seat.new.me.0.stores ≡ length seat.old.me.0.stores) }
     {
         self.table.shared.load::<TakesPlace>(seat, slot as usize);
     }
@@ -63,7 +71,8 @@ impl<T: Task> Ring<T> {
     fn worker(&self, seat: &mut RingSeat<T, T::Job, T::Done>) -> Work<T>
         requires ring { seat.old.table_id ≡ self.now.table.shared.table_id }
         requires lists { (length seat.old.me.0.known.held ≡ self.now.setup.slots)
-            × (length seat.old.me.0.looks ≡ self.now.setup.slots + 1) }
+            × (length seat.old.me.0.looks ≡ self.now.setup.slots + 1)
+            × (length seat.old.me.0.stores ≡ self.now.setup.slots + 1) }
         ensures seat { (seat.new.table_id ≡ seat.old.table_id) × (seat.new.id ≡ seat.old.id)
             × (seat.new.me ≡ seat.old.me) }
         ensures work { IsWorkOf self.now result × (holds_none (claims result) ≡ true) }
@@ -82,7 +91,8 @@ impl<T: Task> Ring<T> {
     ) -> Result<Vec<Work<T>>, AllocError>
         requires ring { seat.old.table_id ≡ self.now.table.shared.table_id }
         requires lists { (length seat.old.me.0.known.held ≡ self.now.setup.slots)
-            × (length seat.old.me.0.looks ≡ self.now.setup.slots + 1) }
+            × (length seat.old.me.0.looks ≡ self.now.setup.slots + 1)
+            × (length seat.old.me.0.stores ≡ self.now.setup.slots + 1) }
         ensures seat { (seat.new.table_id ≡ seat.old.table_id) × (seat.new.id ≡ seat.old.id)
             × (seat.new.me ≡ seat.old.me) }
         ensures works { IfOk result (λ works. (length works.items ≡ count) × All (λ w. IsWorkOf self.now w

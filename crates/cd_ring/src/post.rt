@@ -1,11 +1,13 @@
 //! The coordinator's seat: it posts jobs and takes their results.
-ghost use Rattle.std.specs.Prelude.{◌≡◌, ◌≢◌, ◌+◌, ◌↔◌, true, List, [], ◌∷◌, ◌++◌, length, IsTrue, IsErr, OnOk, IfErr};
+ghost use Rattle.std.specs.Prelude.{◌≡◌, ◌≢◌, ◌+◌, ◌↔◌, true, List, [], ◌∷◌, ◌++◌, length, IsTrue, IsErr};
+ghost use Rattle.std.specs.Prelude.{Some, None, OnOk, OnErr, IfErr};
 ghost use Rattle.cd_ring.specs.Answered.{MatchTaken, is_empty_answer};
 ghost use Rattle.cd_ring.specs.Claims.{HasNoClaim};
-ghost use Rattle.cd_ring.specs.Kinds.{noted};
-ghost use Rattle.cd_ring.specs.Rule.{TAKEN};
+ghost use Rattle.cd_ring.specs.declared.view.Place.TheVariants.{Job};
+ghost use Rattle.cd_ring.specs.Kinds.{noted, stored};
+ghost use Rattle.cd_ring.specs.Rule.{FREE, READY, TAKEN};
 ghost use Rattle.cd_ring.specs.Words.{task_of, slots_of, room_of, IsPostOf, jobs_out, results_taken};
-ghost use Rattle.cd_ring.specs.Words.{oldest_slot, own_claims, has_stopped, looks_of};
+ghost use Rattle.cd_ring.specs.Words.{oldest_slot, next_slot, own_claims, has_stopped, looks_of, stores_of};
 
 use crate::kinds::SetsStop;
 use crate::ring::{Post, Ring};
@@ -33,6 +35,9 @@ impl<T: Task> Post<T> {
         ensures err { IfErr result (λ back. (back ≡ job) × (jobs_out self.new ≡ jobs_out self.old)
             × (results_taken self.new ≡ results_taken self.old)) }
         ensures looks { looks_of self.new ≡ looks_of self.old }
+        ensures posted { OnOk result (stores_of self.new ≡ stored (stores_of self.old) (next_slot self.old) READY
+            (Some (Job job))) }
+        ensures back { OnErr result (stores_of self.new ≡ stores_of self.old) }
         ensures no_claim { HasNoClaim (own_claims self.new) }
         ensures stop { has_stopped self.new ≡ has_stopped self.old }
     {
@@ -58,6 +63,9 @@ impl<T: Task> Post<T> {
             ((jobs_out self.new ≡ []) × (results_taken self.new ≡ results_taken self.old)
             × (looks_of self.new ≡ looks_of self.old)) }
         ensures empty { (is_empty_answer result ≡ true) ↔ (jobs_out self.old ≡ []) }
+        ensures stores { MatchTaken result
+            (λ _. stores_of self.new ≡ stored (stores_of self.old) (oldest_slot self.old) FREE None)
+            (stores_of self.new ≡ stores_of self.old) (stores_of self.new ≡ stores_of self.old) }
         ensures no_claim { HasNoClaim (own_claims self.new) }
         ensures stop { has_stopped self.new ≡ has_stopped self.old }
     {
@@ -95,6 +103,7 @@ impl<T: Task> Post<T> {
         requires ring { IsPostOf ring.now self.old }
         ensures ring { IsPostOf ring.now self.new }
         ensures stop { has_stopped self.new ≡ true }
+        ensures stores { stores_of self.new ≡ stored (stores_of self.old) (slots_of ring.now) 1 None }
         ensures jobs { (jobs_out self.new ≡ jobs_out self.old) × (results_taken self.new ≡ results_taken self.old) }
         ensures looks { looks_of self.new ≡ looks_of self.old }
         ensures no_claim { HasNoClaim (own_claims self.new) }

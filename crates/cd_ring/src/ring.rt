@@ -53,12 +53,3 @@ pub struct Work<T: Task> {
     pub(crate) seat: RingSeat<T, T::Job, T::Done>,
     pub ghost rest: { IsWorker seat.table_id.slots seat.me },
 }
-
-impl<T: Task> Ring<T> {
-    /// The task that `new` took.
-    pub fn task(&self) -> &T
-        ensures { result.now ≡ self.now.setup.task }
-    {
-        &self.setup.task
-    }
-}

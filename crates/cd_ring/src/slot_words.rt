@@ -5,7 +5,7 @@ ghost use lib.ListN.{get_elem?};
 ghost use Rattle.atomic_table.specs.Table.{rest};
 ghost use Rattle.cd_ring.specs.declared.view.Place.TheVariants.{Empty, Job, Result};
 ghost use Rattle.cd_ring.specs.declared.view.Note.TheVariants.{Home, Met, Spare};
-ghost use Rattle.cd_ring.specs.Rule.{Holds, TAKEN};
+ghost use Rattle.cd_ring.specs.Rule.{Holds, FREE, READY, TAKEN, DONE};
 ghost use Rattle.cd_ring.specs.Claims.{are_places_of};
 ghost use Rattle.cd_ring.specs.Kinds.{noted, with_held, with_post, with_take, became};
 ghost use Rattle.cd_ring.specs.Rest.{NextIs};
@@ -29,7 +29,8 @@ impl<T: Task> Ring<T> {
         requires next { NextIs self.now.setup.slots slot seat.old.me.0 }
         requires place { seat.old.me.1 ≡ (slot, Empty) ∷ rest seat.old.me.1 }
         ensures ring { (seat.new.table_id ≡ seat.old.table_id) × (seat.new.id ≡ seat.old.id) }
-        ensures posted { became (with_post seat.old.me.0.known slot job) (rest seat.old.me.1) seat.old.me seat.new.me }
+        ensures posted { became (with_post seat.old.me.0.known slot job) (rest seat.old.me.1) slot READY (Some (Job job))
+            seat.old.me seat.new.me }
     {
         self.lay_job(seat, slot, job);
         self.table
@@ -49,7 +50,8 @@ impl<T: Task> Ring<T> {
         requires places { are_places_of seat.old.me.1 seat.old.me.0.known.held ≡ true }
         ensures ring { (seat.new.table_id ≡ seat.old.table_id) × (seat.new.id ≡ seat.old.id) }
         ensures known { (seat.new.me.0.known ≡ seat.old.me.0.known)
-            × (seat.new.me.0.looks ≡ noted seat.old.me.0.looks slot TAKEN) }
+            × (seat.new.me.0.looks ≡ noted seat.old.me.0.looks slot TAKEN)
+            × (seat.new.me.0.stores ≡ seat.old.me.0.stores) }
         ensures places { (seat.new.me.1 ≡ (slot, Empty) ∷ rest seat.new.me.1)
             × (are_places_of seat.new.me.1 seat.old.me.0.known.held ≡ true) }
     {
@@ -69,7 +71,8 @@ impl<T: Task> Ring<T> {
         requires place { seat.old.me.1 ≡ (slot, Empty) ∷ rest seat.old.me.1 }
         requires meets { T.meets self.now.setup.task job.now done }
         ensures ring { (seat.new.table_id ≡ seat.old.table_id) × (seat.new.id ≡ seat.old.id) }
-        ensures gave { became (with_held seat.old.me.0.known slot None) (rest seat.old.me.1) seat.old.me seat.new.me }
+        ensures gave { became (with_held seat.old.me.0.known slot None) (rest seat.old.me.1) slot DONE (Some (Result done))
+            seat.old.me seat.new.me }
     {
         self.lay_result(seat, slot, done);
         self.table
@@ -92,7 +95,7 @@ impl<T: Task> Ring<T> {
             × T.meets self.now.setup.task x done.now)) }
         ensures ring { (seat.new.table_id ≡ seat.old.table_id) × (seat.new.id ≡ seat.old.id) }
         ensures freed { (x : T.Job) × (xs : List T.Job) × (seat.old.me.0.known.out ≡ x ∷ xs)
-            × became (with_take seat.old.me.0.known slot xs) seat.old.me.1 seat.old.me seat.new.me }
+            × became (with_take seat.old.me.0.known slot xs) seat.old.me.1 slot FREE None seat.old.me seat.new.me }
     {
         self.table
             .shared

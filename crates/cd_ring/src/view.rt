@@ -28,6 +28,13 @@ pub struct Look {
     pub met: u64,
 }
 
+/// How often a seat has stored at a word, the number stored last, and what lay in the place given back with it.
+pub struct Store<J, D> {
+    pub times: u64,
+    pub number: u64,
+    pub given: Option<Place<J, D>>,
+}
+
 /// What a seat knows of the ring. It is for the proofs alone: no value of it is made.
 pub struct Known<T, J, D> {
     /// Whether it is the coordinator's.
@@ -46,10 +53,12 @@ pub struct Known<T, J, D> {
     pub stopped: bool,
 }
 
-/// The view of a seat: what it knows, and its looks at each word, which no rule reads. It is for the proofs alone.
+/// The view of a seat: what it knows, and its looks and its stores at each word, which no rule reads. It is for the
+/// proofs alone.
 pub struct View<T, J, D> {
     pub known: Known<T, J, D>,
     pub looks: LinkedList<Look>,
+    pub stores: LinkedList<Store<J, D>>,
 }
 
 /// What a ring is made of: its task and the number of its slots.

@@ -3,12 +3,12 @@ ghost use Rattle.std.specs.Prelude.{◌≡◌, ℕ, ◌+◌, ◌<◌, ◌∷◌,
 ghost use Rattle.std.specs.Prelude.{Some, None, IfSome, IfNone, IsTrue, MatchOption};
 ghost use mathlib.Core.Option.{some};
 ghost use lib.ListN.{get_elem?};
-ghost use Rattle.cd_ring.specs.declared.view.Place.TheVariants.{Empty, Job};
-ghost use Rattle.cd_ring.specs.Kinds.{with_held, noted};
+ghost use Rattle.cd_ring.specs.declared.view.Place.TheVariants.{Empty, Job, Result};
+ghost use Rattle.cd_ring.specs.Kinds.{with_held, noted, stored};
 ghost use Rattle.cd_ring.specs.Rest.{Missed, Gained};
-ghost use Rattle.cd_ring.specs.Rule.{TAKEN};
+ghost use Rattle.cd_ring.specs.Rule.{TAKEN, DONE};
 ghost use Rattle.cd_ring.specs.Walk.{LookedOver, LookedUpTo};
-ghost use Rattle.cd_ring.specs.Words.{task_of, slots_of, IsWorkOf, claims, looks, HasClaim};
+ghost use Rattle.cd_ring.specs.Words.{task_of, slots_of, IsWorkOf, claims, looks, stores, HasClaim};
 
 use crate::kinds::{Claims, Loads};
 use crate::ring::{Ring, RingSeat, Work};
@@ -49,6 +49,7 @@ impl<T: Task> Ring<T> {
             × (length seat.old.me.0.looks ≡ self.now.setup.slots + 1) }
         ensures ring { (seat.new.table_id ≡ seat.old.table_id) × (seat.new.id ≡ seat.old.id)
             × (length seat.new.me.0.looks ≡ length seat.old.me.0.looks) }
+        ensures stores { seat.new.me.0.stores ≡ seat.old.me.0.stores }
         ensures some { IfSome result (λ c. (c.slot < self.now.setup.slots)
             × (get_elem? seat.old.me.0.known.held c.slot ≡ some None)
             × (seat.new.me.0.known ≡ with_held seat.old.me.0.known c.slot (Some c.job))
@@ -79,6 +80,7 @@ impl<T: Task> Work<T> {
         ensures walk { IfSome result (λ c. LookedUpTo c.slot (looks self.old) (looks self.new)) }
         ensures none { IfNone result ((claims self.new ≡ claims self.old)
             × LookedOver (slots_of ring.now) (looks self.old) (looks self.new)) }
+        ensures stores { stores self.new ≡ stores self.old }
     {
         match ring.claim_first(&mut self.seat) {
             Some(claim) => Some(claim),
@@ -94,6 +96,7 @@ impl<T: Task> Work<T> {
         ensures ring { IsWorkOf ring.now self.new }
         ensures claims { claims self.new ≡ slice_set (claims self.old) claim.slot None }
         ensures looks { looks self.new ≡ noted (looks self.old) claim.slot TAKEN }
+        ensures laid { stores self.new ≡ stored (stores self.old) claim.slot DONE (Some (Result done)) }
     {
         let Claim { slot, job } = claim;
         ring.bring_place(&mut self.seat, slot, &job);
@@ -107,6 +110,7 @@ impl<T: Task> Work<T> {
         ensures claims { claims self.new ≡ claims self.old }
         ensures stopped { (r : ℕ) × (looks self.new ≡ noted (looks self.old) (slots_of ring.now) r)
             × (IsTrue result ↔ (r ≡ 1)) }
+        ensures stores { stores self.new ≡ stores self.old }
     {
         let found = ring
             .table

@@ -22,6 +22,30 @@ fn is_copy(answer: Taken<Option<Vec<u8>>>, wanted: &[u8]) -> bool {
     }
 }
 
+// The result that a worker lays is the one that `take` gives. `perform` never gives this one.
+#[test]
+fn result_of_the_worker_is_taken(rt: HostRuntime) -> Result<(), Fail> {
+    let alloc = rt.alloc();
+    let job = vec![in alloc; 1u8]?;
+    let own = vec![in alloc; 9u8]?;
+    let (ring, mut post, works) = Ring::new(alloc, Copies { alloc }, 1, 1)?;
+    let Some(mut work) = works.into_vec().pop() else {
+        panic!(rt; "no worker")
+    };
+    let posted = posts(&ring, &mut post, job);
+    let Some(claim) = work.try_claim(&ring) else {
+        panic!(rt; "no claim")
+    };
+    work.finish(&ring, claim, Some(own));
+    let taken = is_copy(post.take(&ring), &[9]);
+    assert!(rt; posted && taken);
+    let Taken::Empty = post.take(&ring) else {
+        panic!(rt; "a job is out")
+    };
+    ring.close(post, List::from_vec(Vec::new(alloc)));
+    Ok(())
+}
+
 #[test]
 fn jobs_that_own_memory(rt: HostRuntime) -> Result<(), Fail> {
     let alloc = rt.alloc();

@@ -1,4 +1,5 @@
-//! A coordinator and two workers, each in a thread of the caller's own.
+//! A coordinator and two workers, each in a thread of the caller's own. Where no thread can be made the coordinator comes
+//! first and does all jobs, and the workers find the ring stopped.
 ghost use Rattle.std.specs.Prelude.{◌≡◌, [], true, All, IfSome};
 ghost use Rattle.cd_ring.specs.Claims.{holds_none};
 ghost use Rattle.cd_ring.specs.Words.{IsPostOf, jobs_out, IsWorkOf, claims};
@@ -7,15 +8,20 @@ use crate::tasks::{Next, serve_one};
 use cd_name::List;
 use cd_ring::{Post, Ring, Taken, Task, Work};
 use std::sync::Wait;
+use std::sync::atomic::{AtomicU64, Ordering};
 use std::test::Fail;
 use std::thread;
 use std::thread::Threads;
 
-// Serves the ring until it is stopped.
-fn serve<R: Wait, T: Task>(rt: &R, ring: &Ring<T>, mut work: Work<T>) -> Work<T>
+// How often the coordinator looks whether both workers have begun, before it goes on without them.
+const TURNS: u32 = 10_000_000;
+
+// Serves the ring until it is stopped. The worker is counted as it begins.
+fn serve<R: Wait, T: Task>(rt: &R, ring: &Ring<T>, begun: &AtomicU64, mut work: Work<T>) -> Work<T>
     requires { IsWorkOf ring.now work × (holds_none (claims work) ≡ true) }
     ensures { IsWorkOf ring.now result × (holds_none (claims result) ≡ true) }
 {
+    begun.fetch_add(1, Ordering::SeqCst);
     for _ in rt.forever() {
         if !serve_one(ring, &mut work) && work.stopped(ring) {
             break;
@@ -48,11 +54,26 @@ fn take_all<R: Wait>(
     (taken, right)
 }
 
-// Posts 1,000 jobs, takes their results, and stops the ring. Whether they came in order.
-fn lead<R: Wait>(rt: &R, ring: &Ring<Next>, mut post: Post<Next>) -> (Post<Next>, bool)
+// Waits until both workers have begun, but no longer than so many turns.
+fn wait_for_both(begun: &AtomicU64) {
+    for _ in 0..TURNS {
+        if begun.load(Ordering::SeqCst) == 2 {
+            break;
+        }
+    }
+}
+
+// Posts 1,000 jobs once the workers have begun, takes their results, and stops the ring. Whether they came in order.
+fn lead<R: Wait>(
+    rt: &R,
+    ring: &Ring<Next>,
+    begun: &AtomicU64,
+    mut post: Post<Next>,
+) -> (Post<Next>, bool)
     requires { IsPostOf ring.now post }
     ensures { IsPostOf ring.now result.0 × (jobs_out result.0 ≡ []) }
 {
+    wait_for_both(begun);
     let mut taken = 0u64;
     let mut right = true;
     for job in 0..1000u64 {
@@ -72,6 +93,7 @@ fn lead<R: Wait>(rt: &R, ring: &Ring<Next>, mut post: Post<Next>) -> (Post<Next>
 fn serve_both<R: Threads + Wait + Sync, T: Task + Sync>(
     rt: &R,
     ring: &Ring<T>,
+    begun: &AtomicU64,
     one: Work<T>,
     two: Work<T>,
 ) -> (Work<T>, Work<T>)
@@ -83,7 +105,11 @@ where
     ensures one { IsWorkOf ring.now result.0 × (holds_none (claims result.0) ≡ true) }
     ensures two { IsWorkOf ring.now result.1 × (holds_none (claims result.1) ≡ true) }
 {
-    thread::join(rt, || serve(rt, ring, one), || serve(rt, ring, two))
+    thread::join(
+        rt,
+        || serve(rt, ring, begun, one),
+        || serve(rt, ring, begun, two),
+    )
 }
 
 // The last of the workers' seats.
@@ -105,10 +131,11 @@ fn two_workers_keep_the_order(rt: HostRuntime) -> Result<(), Fail> {
     let Some(two) = take_work(&ring, &mut works) else {
         panic!(rt; "no second worker")
     };
-    let ((post, right), _works) = thread::join(
+    let begun = AtomicU64::new(0);
+    let (_works, (post, right)) = thread::join(
         &rt,
-        || lead(&rt, &ring, post),
-        || serve_both(&rt, &ring, one, two),
+        || serve_both(&rt, &ring, &begun, one, two),
+        || lead(&rt, &ring, &begun, post),
     );
     assert!(rt; right);
     ring.close(post, List::from_vec(Vec::new(rt.alloc())));

@@ -1,5 +1,6 @@
 use Rattle.std.proofs.Common.{ℕ, drop, ap, ◌∙◌}
 use Rattle.cd_ring.proofs.Moves.{good}
+use Rattle.cd_ring.proofs.Telling.{tells_all}
 use Rattle.cd_ring.proofs.laws.ring_shows_an_ordered_core.Goals as goal
 
 pub returns : goal.returns
@@ -11,4 +12,6 @@ returns g c = λ slots words homes all r. record {
   seated = r.leads;
   out = r.out_is ∙ ap (λ (n : ℕ). drop n r.core.posted) r.taken_is;
   shown = r.shows;
+  tells = tells_all (g.T.Task.meets c.args._task.now) c.args._task.now slots words homes all r;
+  stop = r.stop;
 }

@@ -12,5 +12,5 @@ loop-left-preserved g c = let l = c.loop-left in let left : ℕ = l.left in let 
   c.take_place.ensures.ring.1 ∙ l.invariant.1,
   takes_one_place c.args.self.now.setup.task c.args.self.now.setup.slots (l.left - 1) l.seat.me c.take_place.new.seat.me
       (subst (λ (z : ℕ). IsTakingPlaces c.args.self.now.setup.task c.args.self.now.setup.slots z l.seat.me) (let h : left ≡ left - 1 + 1 = omega arith in h) l.invariant.2)
-      filled.0 filled.1 filled.2,
+      filled.0 filled.1 filled.2 filled.3,
 )

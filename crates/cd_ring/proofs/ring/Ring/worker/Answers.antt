@@ -11,5 +11,5 @@ split_seat-requires g c = (search rules, search rules, splits g.T.Task.meets _ _
 pub invariant_of-result : goal.invariant_of-result
 invariant_of-result g c = let e = c.split_seat.ensures in record {
   rest = subst (λ (t : ℕ). IsWorker t c.split_seat.result.me) (sym (ap (λ t. t.slots) (e.3 ∙ c.requires.ring) ∙ c.args.self.now.sized.1))
-      (new_worker c.args.self.now.setup.slots c.args.seat.now.me.0 c.split_seat.result.me c.requires.lists.0 c.requires.lists.1 e.4);
+      (new_worker c.args.self.now.setup.slots c.args.seat.now.me.0 c.split_seat.result.me c.requires.lists.0 c.requires.lists.1 c.requires.lists.2 e.4);
 }
