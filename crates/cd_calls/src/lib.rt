@@ -1,17 +1,10 @@
-//! Calls of the crates below, for what no table of values can say: each public call once with ample memory, devices that
-//! fail, captures that come in chunks, and very large input. Values are stored cases.
+//! Calls of the crates below, for what no table of values can say: each public call once with ample memory, devices
+//! that fail, a capture that comes in chunks, and very large input. Values are stored cases.
 //!
-//! The tests of all crates stand here, since a crate with tests is proved twice.
+//! No crate with code of its own has tests, since a crate with tests is proved twice. Those of the crates that read
+//! stand in `cd_reading_calls`, those of the ring in `cd_ring_calls`, and all others here.
 #![tactic(auto)]
 
-#[cfg(test)]
-mod blocks;
-#[cfg(test)]
-mod bytes;
-#[cfg(test)]
-mod captures;
-#[cfg(test)]
-mod cbor;
 #[cfg(test)]
 mod driving;
 #[cfg(test)]
