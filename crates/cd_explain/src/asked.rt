@@ -15,6 +15,7 @@ pub enum Asked {
     Released,
     Records,
     File,
+    Read,
     Cbor,
     Words,
     Prefix,
@@ -23,7 +24,7 @@ pub enum Asked {
 }
 
 // Each layer with its word.
-const LAYERS: [(&[u8], Asked); 14] = [
+const LAYERS: [(&[u8], Asked); 15] = [
     (b"name", Asked::Name),
     (b"message", Asked::Message),
     (b"packets", Asked::Packets),
@@ -33,6 +34,7 @@ const LAYERS: [(&[u8], Asked); 14] = [
     (b"released", Asked::Released),
     (b"records", Asked::Records),
     (b"file", Asked::File),
+    (b"read", Asked::Read),
     (b"cbor", Asked::Cbor),
     (b"words", Asked::Words),
     (b"prefix", Asked::Prefix),
@@ -56,7 +58,7 @@ pub struct Request<'a> {
     pub asked: Asked,
     /// Whether each line is an input of its own, in hexadecimal.
     pub hex: bool,
-    /// Captures, and bytes of CBOR, are fed in chunks of so many bytes, or at once where it is 0.
+    /// Captures, files that are read, and bytes of CBOR are fed in chunks of so many bytes, or at once where it is 0.
     pub chunk: usize,
     /// The prefix of IPv6 that the addresses of events are embedded in, if they are (RFC 6052 2.2, with 96 bits).
     pub ipv6: Option<[u8; 16]>,

@@ -13,6 +13,7 @@ use crate::items::explain_cbor;
 use crate::messages::explain_message;
 use crate::names::{explain_checksum, explain_name, explain_numbers, explain_prefix};
 use crate::packets::{Layers, Packets, put_walked};
+use crate::reading::explain_file;
 use crate::released::put_released;
 use crate::runs::{Shown, put_runs};
 use crate::settings::explain_words;
@@ -121,6 +122,19 @@ fn put_capture(
     put_walked(text, walked)
 }
 
+// What a layer of CBOR makes of bytes.
+fn put_cbor(
+    alloc: Global,
+    text: &mut String,
+    request: &Request,
+    bytes: &[u8],
+) -> Result<(), AllocError> {
+    match request.asked {
+        Asked::Read => explain_file(alloc, text, bytes, request.chunk),
+        _ => explain_cbor(alloc, text, bytes, request.chunk),
+    }
+}
+
 // What a layer that takes a number makes of bytes. False where it does not take the number with them.
 fn put_numbered(
     alloc: Global,
@@ -173,11 +187,11 @@ fn explain_input(
             let answer_type = answer_type_of(request.words)?;
             explain_message(alloc, text, bytes, answer_type)?;
         }
-        Asked::Cbor => {
+        Asked::Cbor | Asked::Read => {
             if !request.words.is_empty() {
                 return Err(Ended::Usage);
             }
-            explain_cbor(alloc, text, bytes, request.chunk)?;
+            put_cbor(alloc, text, request, bytes)?;
         }
         Asked::Name | Asked::Prefix | Asked::Checksum | Asked::Numbers => {
             for word in request.words {

@@ -11,6 +11,7 @@
 //! - `records`: the records of a capture and the blocks that are kept of them (RFC 8618 7.3.2).
 //! - `file`: the head, the blocks and the end of the file of a capture, as they are written, and what the tables of each block
 //!   resolve to.
+//! - `read`: the block parameters and the blocks of a file of C-DNS, and `whole` or its first refusal.
 //! - `cbor`: the item that some bytes begin with (RFC 8949) and its length, or the first fault; with `--chunk N` the
 //!   events after each chunk.
 //! - `words`: the words after it as a command line, or without such words each line of the input as one.
@@ -19,9 +20,9 @@
 //! - `checksum N..`: the Internet checksum of the bytes, given in two pieces of which the first has so many.
 //!
 //! Words may stand after the layer, in this order: `--hex`, where each line of the input is one input in hexadecimal;
-//! `--chunk N`, where a capture, or bytes of CBOR, are fed in chunks of so many bytes; `--ipv6 PREFIX`, where the
-//! addresses of events are embedded in a prefix of IPv6 of 96 bits (RFC 6052 2.2). Layers of a capture take the options
-//! of `compact` last.
+//! `--chunk N`, where a capture, a file that is read, or bytes of CBOR are fed in chunks of so many bytes;
+//! `--ipv6 PREFIX`, where the addresses of events are embedded in a prefix of IPv6 of 96 bits (RFC 6052 2.2). Layers of
+//! a capture take the options of `compact` last.
 //!
 //! ```text
 //! $ printf '1a2b01000001000000000000 0161 00 0001 0001' | cd_explain message --hex
@@ -42,6 +43,7 @@ mod kept;
 mod messages;
 mod names;
 mod packets;
+mod reading;
 mod records;
 mod released;
 mod runs;
@@ -59,7 +61,8 @@ use std::io::ErrorKind;
 use std::process::ExitCode;
 
 const USAGE: &[u8] = b"usage: cd_explain LAYER [--hex] [--chunk N] [--ipv6 PREFIX] [WORDS]
-layers: message, packets, layers, events, pairs, released, records, file, cbor, words, name, prefix, checksum, numbers
+layers: message, packets, layers, events, pairs, released, records, file, read, cbor, words, name, prefix, checksum,
+        numbers
 WORDS: options of compact for a capture; numbers for name, prefix, checksum, numbers; a type of answers for message.
 ";
 

@@ -63,7 +63,8 @@ fn put_prefixes(text: &mut String, params: &Params) -> Result<(), AllocError> {
     put_optional(text, "server-prefix6", &server6)
 }
 
-fn put_params(text: &mut String, params: &Params) -> Result<(), AllocError> {
+/// Block parameters, a line a field (RFC 8618 7.3.1.1).
+pub fn put_params(text: &mut String, params: &Params) -> Result<(), AllocError> {
     put_limits(text, params)?;
     put_hints(text, &params.hints)?;
     put_opcodes(text, params.opcodes)?;
