@@ -3,5 +3,5 @@
 mod captures;
 mod faults;
 mod many;
+mod report;
 pub mod sample;
-mod words;
