@@ -31,7 +31,7 @@ answer_of (Err e) = (ended.NoMemory, no_read_counts)
 
 -- what a drive did is what a check does
 checks_on : (max : ℕ) (so sn : SourceMeaning) (ko kn : SinkMeaning) (r : Result (Driven BadFile ReadCounts) SinkFault)
-    (taken : List ℕ) → DrivesOn (inspecting counting) max so sn ko kn r taken → ChecksTaken max sn (answer_of r) taken
+    (taken : List ℕ) → DrivesOn (inspecting counting) max so sn ko kn r taken → ChecksTaken max so sn (answer_of r) taken
 checks_on max so sn ko kn (Ok driven) taken h = record {
   stops = reads_on (inspecting counting) ended_bad max so sn ko kn taken h.reads;
   ending = inl (ap (ended_of ended_bad) h.stop ∙ ended_stop (inspecting counting) ended_bad max taken sn.ended);
@@ -54,7 +54,7 @@ pub told_driven : (max : ℕ) (so sn : SourceMeaning) (ko kn : SinkMeaning) (r :
 told_driven max so sn ko kn r h = λ taken is. checks_on max so sn ko kn r taken (h taken is)
 
 -- where memory runs out before the first read, nothing was taken
-nothing_taken : (max : ℕ) (so : SourceMeaning) → ChecksTaken max so (ended.NoMemory, no_read_counts) []
+nothing_taken : (max : ℕ) (so : SourceMeaning) → ChecksTaken max so so (ended.NoMemory, no_read_counts) []
 nothing_taken max so = record {
   stops = record {
     before = [];
@@ -64,6 +64,7 @@ nothing_taken max so = record {
     undecided = nothing_unrefused;
     within = omega arith;
     few = omega arith;
+    calls = omega arith;
   };
   ending = inr tt;
   counts = refl;
@@ -74,5 +75,5 @@ unread max so = ([], consumes_none so.left, nothing_taken max so)
 
 pub unread_told : (max : ℕ) (so : SourceMeaning) → ChecksTold max so so (ended.NoMemory, no_read_counts)
 unread_told max so = λ taken is.
-    let P : List ℕ → Type 0 = λ t. ChecksTaken max so (ended.NoMemory, no_read_counts) t in
+    let P : List ℕ → Type 0 = λ t. ChecksTaken max so so (ended.NoMemory, no_read_counts) t in
     subst P (none_taken so taken is) (nothing_taken max so)

@@ -59,7 +59,7 @@ early_on s so sn ko kn r taken h many front is =
 
 -- what a drive did is what a compaction does
 pub compacts_on : (s : Settings) → IsValid s → (so sn : SourceMeaning) (ko kn : SinkMeaning) (r : Result (Driven Refusal Counts) SinkFault)
-    (taken : List ℕ) → DrivesOn (compacting s) s.max_input so sn ko kn r taken → CompactsTaken s sn ko kn (answer_of r) taken
+    (taken : List ℕ) → DrivesOn (compacting s) s.max_input so sn ko kn r taken → CompactsTaken s so sn ko kn (answer_of r) taken
 compacts_on s valid so sn ko kn (Ok driven) taken h =
     let used : List ℕ = used_bytes s taken in
     let P : Counts → Type 0 = λ c. AreCountsOf s used c in
@@ -126,7 +126,7 @@ done_driven (Err fault.Failed) h = absurd cc
 done_driven (Err fault.NoMemory) h = inr refl
 
 -- where memory runs out before the first read, nothing was taken
-nothing_taken : (s : Settings) (so : SourceMeaning) (ko : SinkMeaning) → CompactsTaken s so ko ko (ended.NoMemory, no_counts) []
+nothing_taken : (s : Settings) (so : SourceMeaning) (ko : SinkMeaning) → CompactsTaken s so so ko ko (ended.NoMemory, no_counts) []
 nothing_taken s so ko = record {
   stops = record {
     before = [];
@@ -136,6 +136,7 @@ nothing_taken s so ko = record {
     undecided = refusal_few (rules_of s) [] (omega arith);
     within = omega arith;
     few = omega arith;
+    calls = omega arith;
   };
   ending = inr tt;
   counts = refl;
@@ -152,5 +153,5 @@ unread s so ko = ([], consumes_none so.left, nothing_taken s so ko)
 
 pub unread_told : (s : Settings) (so : SourceMeaning) (ko : SinkMeaning) → CompactsTold s so so ko ko (ended.NoMemory, no_counts)
 unread_told s so ko = λ taken is.
-    let P : List ℕ → Type 0 = λ t. CompactsTaken s so ko ko (ended.NoMemory, no_counts) t in
+    let P : List ℕ → Type 0 = λ t. CompactsTaken s so so ko ko (ended.NoMemory, no_counts) t in
     subst P (none_taken so taken is) (nothing_taken s so ko)

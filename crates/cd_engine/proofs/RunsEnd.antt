@@ -45,7 +45,7 @@ ended_stop {R = R} b f max taken told =
 
 -- reading stops with the bytes that say how the input ends
 pub reads_on : {R C : Type 0} (b : Behavior R C) (f : R → Ended) (max : ℕ) (so sn : SourceMeaning) (ko kn : SinkMeaning) (taken : List ℕ) →
-    ReadsInTime b max so sn ko kn taken → StopsInTime (judging_by b f) max taken
+    ReadsInTime b max so sn ko kn taken → StopsInTime (judging_by b f) max so sn taken
 reads_on b f max so sn ko kn taken r = record {
   before = r.before;
   last = r.last;
@@ -54,6 +54,7 @@ reads_on b f max so sn ko kn taken r = record {
   undecided = r.undecided;
   within = r.within;
   few = r.few;
+  calls = r.calls;
 }
 
 -- bytes are refused so

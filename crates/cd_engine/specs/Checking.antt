@@ -29,19 +29,19 @@ abbrev pub TellsRead : List ℕ → Ended → ReadCounts → Type 0
 TellsRead bytes e counts = IfStopped e (counts ≡ no_read_counts) (AreReadCountsOf bytes counts)
 
 -- These bytes were taken, and the answer and the counts are theirs.
-pub record ChecksTaken (max : ℕ) (src_new : SourceMeaning) (result : Ended × ReadCounts) (taken : List ℕ) : Type 0 where
-  pub stops : StopsInTime judging_files max taken
+pub record ChecksTaken (max : ℕ) (src_old src_new : SourceMeaning) (result : Ended × ReadCounts) (taken : List ℕ) : Type 0 where
+  pub stops : StopsInTime judging_files max src_old src_new taken
   pub ending : EndsAs result.0 (ended_in judging_files max taken src_new.ended)
   pub counts : TellsRead (take max taken) result.0 result.1
 
 -- the call took some bytes, and its answer is theirs
 abbrev pub Checks : ℕ → SourceMeaning → SourceMeaning → Ended × ReadCounts → Type 0
-Checks max src_old src_new result = Took src_old src_new (ChecksTaken max src_new result)
+Checks max src_old src_new result = Took src_old src_new (ChecksTaken max src_old src_new result)
 
 -- Where the source tells, the answer is that of the bytes that it has lost.
 abbrev pub ChecksTold : ℕ → SourceMeaning → SourceMeaning → Ended × ReadCounts → Type 0
 ChecksTold max src_old src_new result =
-    (taken : List ℕ) → IsTaken src_old src_new taken → ChecksTaken max src_new result taken
+    (taken : List ℕ) → IsTaken src_old src_new taken → ChecksTaken max src_old src_new result taken
 
 -- The bytes are a whole file, of at most so many bytes.
 pub record IsWholeFile (max : ℕ) (bytes : List ℕ) : Type 0 where

@@ -29,13 +29,13 @@ abbrev pub used_bytes : Settings → List ℕ → List ℕ
 used_bytes s taken = take s.max_input taken
 
 -- reading stops with the chunk that says how the capture ends
-abbrev pub StopsReading : Settings → List ℕ → Type 0
-StopsReading s taken = StopsInTime (judging_captures s) s.max_input taken
+abbrev pub StopsReading : Settings → SourceMeaning → SourceMeaning → List ℕ → Type 0
+StopsReading s src_old src_new taken = StopsInTime (judging_captures s) s.max_input src_old src_new taken
 
 -- These bytes were taken, and the answer, the counts and the output are theirs.
-pub record CompactsTaken (s : Settings) (src_new : SourceMeaning) (out_old out_new : SinkMeaning)
+pub record CompactsTaken (s : Settings) (src_old src_new : SourceMeaning) (out_old out_new : SinkMeaning)
     (result : Ended × Counts) (taken : List ℕ) : Type 0 where
-  pub stops : StopsReading s taken
+  pub stops : StopsReading s src_old src_new taken
   pub ending : EndsAs result.0 (ended_by s taken src_new.ended)
   pub counts : Tells s (used_bytes s taken) result.0 result.1
   pub file : (file : List ℕ) → IsFileOf s (used_bytes s taken) file → Writes out_old out_new result.0 file
@@ -47,12 +47,12 @@ pub record CompactsTaken (s : Settings) (src_new : SourceMeaning) (out_old out_n
 -- the call took some bytes, and its answer and output are theirs
 abbrev pub Compacts : Settings → SourceMeaning → SourceMeaning → SinkMeaning → SinkMeaning → Ended × Counts → Type 0
 Compacts s src_old src_new out_old out_new result =
-    Took src_old src_new (CompactsTaken s src_new out_old out_new result)
+    Took src_old src_new (CompactsTaken s src_old src_new out_old out_new result)
 
 -- Where the source tells, the answer and the output are those of the bytes that it has lost.
 abbrev pub CompactsTold : Settings → SourceMeaning → SourceMeaning → SinkMeaning → SinkMeaning → Ended × Counts → Type 0
 CompactsTold s src_old src_new out_old out_new result =
-    (taken : List ℕ) → IsTaken src_old src_new taken → CompactsTaken s src_new out_old out_new result taken
+    (taken : List ℕ) → IsTaken src_old src_new taken → CompactsTaken s src_old src_new out_old out_new result taken
 
 -- a sink that fails in the call, or refuses a chunk for want of memory, stops the run
 pub record WriteOutranks (old new : SinkMeaning) (result : Ended) : Type 0 where

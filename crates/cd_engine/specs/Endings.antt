@@ -3,6 +3,7 @@ use Rattle.std.specs.Prelude.{◌≡◌, ℕ, ◌+◌, ◌≤◌, ◌⊎◌, Boo
 use Rattle.cd_drive.specs.declared.driving.Stop.{Stop}
 use Rattle.cd_drive.specs.declared.driving.Stop.TheVariants as stop
 use Rattle.cd_hints.specs.declared.settings.Settings.{Settings}
+use Rattle.cd_ports.specs.Reading.{SourceMeaning}
 use Rattle.cd_engine.specs.Events.{rules_of}
 use Rattle.cd_engine.specs.Refusals.{refusal, refusal_at_end}
 use Rattle.cd_engine.specs.declared.ended.Ended.{Ended}
@@ -39,7 +40,7 @@ ended_in judging max taken told_end =
     else (if told_end then refused_as judging.ended_for (judging.refused_at_end taken) ended.Done else ended.ReadFault))
 
 -- Reading stops with the chunk that says how the input ends, and at most one byte more than wanted was taken.
-pub record StopsInTime {R : Type 0} (judging : Judging R) (max : ℕ) (taken : List ℕ) : Type 0 where
+pub record StopsInTime {R : Type 0} (judging : Judging R) (max : ℕ) (src_old src_new : SourceMeaning) (taken : List ℕ) : Type 0 where
   pub before : List ℕ
   pub last : List ℕ
   pub split : taken ≡ before ++ last
@@ -49,6 +50,8 @@ pub record StopsInTime {R : Type 0} (judging : Judging R) (max : ℕ) (taken : L
   pub undecided : judging.refused before ≡ None
   pub within : length before ≤ max
   pub few : length taken ≤ max + 1
+  -- Each read but the last took a byte, and no read came after it.
+  pub calls : src_new.calls ≤ src_old.calls + length before + 1
 
 -- the first where a write failed or memory ran out, else the second
 abbrev pub IfStopped : Ended → Type 0 → Type 0 → Type 0

@@ -132,10 +132,10 @@ check_unended one words m c so sn old new x taken r said h told over unended cau
     ]
 
 -- reading stops in time
-pub check_stops : CommandsAreOne → (words : List (List ℕ)) (m : ℕ) (c : Command) (taken : List ℕ) → SaysCommand words (Check m) → SaysCommand words c →
-    endings.StopsInTime judging_files m taken → StopsReading c taken
-check_stops one words m c taken said says h =
-    let P : Command → Type 0 = λ d. StopsReading d taken in
+pub check_stops : CommandsAreOne → (words : List (List ℕ)) (m : ℕ) (c : Command) (so sn : SourceMeaning) (taken : List ℕ) → SaysCommand words (Check m) → SaysCommand words c →
+    endings.StopsInTime judging_files m so sn taken → StopsReading c so sn taken
+check_stops one words m c so sn taken said says h =
+    let P : Command → Type 0 = λ d. StopsReading d so sn taken in
     subst P (one words (Check m) c said says) (record {
       before = h.before;
       last = h.last;
@@ -144,6 +144,7 @@ check_stops one words m c taken said says h =
       undecided = rw h.undecided refl;
       within = h.within;
       few = h.few;
+      calls = h.calls;
     })
 
 -- a check that is done or finds no memory is a run that is, where the report does not fail
@@ -170,9 +171,9 @@ check_completes old new r e counts h unfailed (inr is) =
 
 -- some bytes were taken, and reading stops in time
 pub check_takes : CommandsAreOne → (words : List (List ℕ)) (m : ℕ) (c : Command) (so sn : SourceMeaning) (x : Ended × ReadCounts) (bytes : List ℕ) →
-    SaysCommand words (Check m) → SaysCommand words c → so.left ≡ Some bytes → Checks m so sn x → (taken : List ℕ) × IsTaken so sn taken × StopsReading c taken
+    SaysCommand words (Check m) → SaysCommand words c → so.left ≡ Some bytes → Checks m so sn x → (taken : List ℕ) × IsTaken so sn taken × StopsReading c so sn taken
 check_takes one words m c so sn x bytes said says told took =
-    (took.0, consumed_is_taken so sn bytes took.0 told took.1, check_stops one words m c took.0 said says took.2.stops)
+    (took.0, consumed_is_taken so sn bytes took.0 told took.1, check_stops one words m c so sn took.0 said says took.2.stops)
 
 -- a check that is done is not stopped
 pub done_goes : (e : Ended) → e ≡ ended.Done → endings.IsStopped e → ⊥

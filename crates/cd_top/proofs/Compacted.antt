@@ -60,10 +60,10 @@ run_writes one words t s so sn ko kn x taken file r said is told over of =
     ((told taken over.took).file file (subst P (sym (same_settings one words t s said over.says)) of))
 
 -- reading stops in time
-pub compact_stops : CommandsAreOne → (words : List (List ℕ)) (t : Settings) (c : Command) (taken : List ℕ) → SaysCommand words (Compact t) → SaysCommand words c →
-    compacting.StopsReading t taken → StopsReading c taken
-compact_stops one words t c taken said says h =
-    let P : Command → Type 0 = λ d. StopsReading d taken in
+pub compact_stops : CommandsAreOne → (words : List (List ℕ)) (t : Settings) (c : Command) (so sn : SourceMeaning) (taken : List ℕ) → SaysCommand words (Compact t) → SaysCommand words c →
+    compacting.StopsReading t so sn taken → StopsReading c so sn taken
+compact_stops one words t c so sn taken said says h =
+    let P : Command → Type 0 = λ d. StopsReading d so sn taken in
     subst P (one words (Compact t) c said says) (record {
       before = h.before;
       last = h.last;
@@ -72,11 +72,12 @@ compact_stops one words t c taken said says h =
       undecided = rw h.undecided refl;
       within = h.within;
       few = h.few;
+      calls = h.calls;
     })
 
 -- some bytes were taken, and reading stops in time
 pub compact_takes : CommandsAreOne → (words : List (List ℕ)) (t : Settings) (c : Command) (so sn : SourceMeaning) (ko kn : SinkMeaning) (x : Ended × Counts)
     (bytes : List ℕ) → SaysCommand words (Compact t) → SaysCommand words c → so.left ≡ Some bytes → Compacts t so sn ko kn x →
-    (taken : List ℕ) × IsTaken so sn taken × StopsReading c taken
+    (taken : List ℕ) × IsTaken so sn taken × StopsReading c so sn taken
 compact_takes one words t c so sn ko kn x bytes said says told took =
-    (took.0, consumed_is_taken so sn bytes took.0 told took.1, compact_stops one words t c took.0 said says took.2.stops)
+    (took.0, consumed_is_taken so sn bytes took.0 told took.1, compact_stops one words t c so sn took.0 said says took.2.stops)

@@ -38,8 +38,8 @@ none_refused (Compact s) = refl
 none_refused (Check max) = ap (λ o. option_map judging_files.ended_for o) nothing_unrefused
 
 -- to take nothing is to stop in time
-pub none_stops : (c : Command) → StopsReading c []
-none_stops c = record {
+pub none_stops : (c : Command) (src : SourceMeaning) → StopsReading c src src []
+none_stops c src = record {
   before = [];
   last = [];
   split = refl;
@@ -47,6 +47,7 @@ none_stops c = record {
   undecided = none_refused c;
   within = omega arith;
   few = omega arith;
+  calls = omega arith;
 }
 
 -- so what was taken is nothing

@@ -57,8 +57,8 @@ abbrev pub ended_by : Command → List ℕ → Bool → Ended
 ended_by c taken told_end = ended_in (judging_of c) (max_input_of c) taken told_end
 
 -- reading stops with the chunk that says how the input ends
-abbrev pub StopsReading : Command → List ℕ → Type 0
-StopsReading c taken = StopsInTime (judging_of c) (max_input_of c) taken
+abbrev pub StopsReading : Command → SourceMeaning → SourceMeaning → List ℕ → Type 0
+StopsReading c src_old src_new taken = StopsInTime (judging_of c) (max_input_of c) src_old src_new taken
 
 -- Nothing ended the input: the bytes taken are neither refused nor too many, and the source neither told its end nor
 -- failed.

@@ -119,7 +119,8 @@ pub fn run_plain<S: Source, K: Sink, E: Sink>(
     // Reading stops in time, within its bounds, and takes no byte after a failed read.
     ensures taken { (c : Command) → SaysCommand words.now c →
         (bytes : List ℕ) → (S.means src.old).left ≡ Some bytes →
-        (taken : List ℕ) × IsTaken (S.means src.old) (S.means src.new) taken × StopsReading c taken }
+        (taken : List ℕ) × IsTaken (S.means src.old) (S.means src.new) taken
+        × StopsReading c (S.means src.old) (S.means src.new) taken }
     ensures calls { (c : Command) → SaysCommand words.now c →
         (S.means src.new).calls ≤ (S.means src.old).calls + max_input_of c + 1 }
     ensures late { (S.means src.old).failed ≡ false → (S.means src.new).late ≡ (S.means src.old).late }

@@ -144,4 +144,4 @@ pub returns-in-Err-NoMemory-clause-report : goal.returns-in-Err-NoMemory-clause-
 returns-in-Err-NoMemory-clause-report g c = λ max_input taken over counts are. unsaid _ _ _
 
 pub returns-in-Err-NoMemory-clause-taken : goal.returns-in-Err-NoMemory-clause-taken
-returns-in-Err-NoMemory-clause-taken g c = λ d says bytes told. ([], none_taken _ bytes told, none_stops d)
+returns-in-Err-NoMemory-clause-taken g c = λ d says bytes told. ([], none_taken _ bytes told, none_stops d _)
