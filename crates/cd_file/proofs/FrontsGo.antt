@@ -56,7 +56,7 @@ judged_stays : {A : Type 0} (bytes : List ℕ) (at : ℕ) (now later : Result A 
 judged_stays bytes at now later goes = judged_or_stays at Open now later goes.stays
 
 -- a value of a judged reading is one of the reading
-judged_or_ok : {A : Type 0} (at : ℕ) (e : FileEnd) (r : Result A CborFault) (x : A) → judged_or e at r ≡ Ok x → r ≡ Ok x
+pub judged_or_ok : {A : Type 0} (at : ℕ) (e : FileEnd) (r : Result A CborFault) (x : A) → judged_or e at r ≡ Ok x → r ≡ Ok x
 judged_or_ok at e (Ok y) x h = let same : y ≡ x = cc in ap Ok same
 judged_or_ok at e (Err (fault.Bad place why.End)) x h = absurd cc
 judged_or_ok at e (Err (fault.Bad place reason)) x h = absurd cc

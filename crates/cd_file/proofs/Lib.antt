@@ -35,3 +35,8 @@ pub mod Passings
 pub mod StepsTaken
 pub mod FileEnds
 pub mod NextBlocks
+pub mod ElementsFit
+pub mod MapsKeep
+pub mod BlockParts
+pub mod BlocksTold
+pub mod KeptTold

@@ -24,3 +24,4 @@ pub mod ItemReading
 pub mod Putting
 pub mod StringReading
 pub mod Meeting
+pub mod PartsInBytes

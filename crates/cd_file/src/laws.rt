@@ -6,6 +6,7 @@ ghost use Rattle.cd_block.specs.declared.params.Params.{Params};
 ghost use Rattle.cd_file.specs.Files.{file_head, block_spelling, file_begun, file_end, file_of};
 ghost use Rattle.cd_file.specs.ReadBack.{FileIsReadBack, OpenFileIsReadBack, FileIsKept};
 ghost use Rattle.cd_file.specs.FileGrowth.{FilesGrow};
+ghost use Rattle.cd_file.specs.PartsInBytes.{PartsHaveBytes, BlocksHaveParams};
 
 /// A head, then each block in turn, then the end are the file of these parameters and blocks.
 pub fn a_file_grows_by_its_blocks()
@@ -29,4 +30,11 @@ pub fn what_is_written_is_read_back()
 /// After a refusal nothing does.
 pub fn files_grow()
     ensures { FilesGrow }
+{}
+
+/// Each block, item and malformed message of a file has a byte of its own, and the block parameters that a block names
+/// are there.
+pub fn parts_have_bytes()
+    ensures parts { PartsHaveBytes }
+    ensures params { BlocksHaveParams }
 {}

@@ -5,8 +5,9 @@ use std::alloc::AllocError;
 /// What is wrong with a file. A key is that of the map in which it stands (RFC 8618 7.3).
 #[derive(Clone, Copy, Debug, PartialEq, Eq)]
 pub enum FileWhy {
-    /// The bytes are no well-formed CBOR. The offset is that of the head that shows it, in bytes from the start of the
-    /// file; of an end of the bytes it is their number.
+    /// The bytes are no well-formed CBOR, nest deeper than 16 items, or have a text that is not UTF-8 or a string longer than
+    /// 134,217,728 bytes. The offset is that of the head that shows it, in bytes from the start of the file; of an end of
+    /// the bytes it is their number.
     Cbor(u64),
     /// This is no C-DNS file: not an array of the text "C-DNS", a map and an array.
     NotCdns,
