@@ -1,3 +1,4 @@
 pub mod Taking
 pub mod Beginning
 pub mod Ending
+pub mod CountsTold

@@ -1,8 +1,9 @@
 -- What is counted of the blocks of a file that is read.
-use Rattle.std.specs.Prelude.{ℕ, ◌+◌, ◌-◌, ◌^◌, min, List, [], length}
-use Rattle.std.specs.List.{sum_by}
+use Rattle.std.specs.Prelude.{◌≡◌, ℕ, ◌+◌, ◌-◌, ◌<◌, ◌^◌, min, List, [], length}
 use Rattle.cd_block.specs.declared.kept.KeptBlock.{KeptBlock}
-use Rattle.cd_inspection.specs.Inspecting.{Rendering}
+use Rattle.cd_file.specs.KeptFile.{kept_file}
+use Rattle.cd_file.specs.PartsInBytes.{item_count, malformed_count}
+use Rattle.cd_inspection.specs.Inspecting.{Rendering, inspecting}
 use Rattle.cd_inspection.specs.declared.counting.ReadCounts.{ReadCounts}
 
 -- a count as 64 bits hold it
@@ -31,14 +32,19 @@ counting = record {
   counts_with = λ params kept. counts_with_block kept;
 }
 
--- The counts of these blocks: each count stands still at the end of 64 bits.
+-- the counts of these blocks
 abbrev pub read_counts : List KeptBlock → ReadCounts
 read_counts blocks = record {
-  blocks = held_in_64 (length blocks);
-  items = held_in_64 (sum_by (λ (b : KeptBlock). length b.items) blocks);
-  malformed = held_in_64 (sum_by (λ (b : KeptBlock). length b.malformed) blocks);
+  blocks = length blocks;
+  items = item_count blocks;
+  malformed = malformed_count blocks;
   packets = 0;
   bare = 0;
   not_udp = 0;
   too_long = 0;
 }
+
+-- what is counted of fewer than 2^64 bytes are the blocks of their file, and what is in them
+abbrev pub CountsAreOfBlocks : Type 0
+CountsAreOfBlocks = (bytes : List ℕ) → length bytes < 2 ^ 64 →
+    (inspecting counting).counts bytes ≡ read_counts (kept_file bytes).blocks

@@ -14,6 +14,7 @@
 mod counting;
 mod inspection;
 mod inspector;
+pub mod laws;
 
 pub use counting::{BlockCounting, ReadCounts};
 pub use inspection::Inspection;
