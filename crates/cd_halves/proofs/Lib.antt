@@ -1,0 +1,5 @@
+pub mod Words
+pub mod Told
+pub mod Backs
+pub mod QueryBack
+pub mod ResponseBack
