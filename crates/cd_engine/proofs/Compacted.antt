@@ -10,6 +10,7 @@ use Rattle.cd_drive.specs.declared.driving.Driven.{Driven}
 use Rattle.cd_drive.specs.declared.driving.Stop.{Stop}
 use Rattle.cd_hints.specs.Validity.{IsValid}
 use Rattle.cd_hints.specs.declared.settings.Settings.{Settings}
+use Rattle.cd_packet.specs.declared.capture.BadCapture.{BadCapture}
 use Rattle.cd_ports.specs.Reading.{SourceMeaning}
 use Rattle.cd_ports.specs.Writing.{SinkMeaning, AppendsPrefix}
 use Rattle.cd_ports.specs.declared.sink.SinkFault.{SinkFault}
@@ -18,39 +19,39 @@ use Rattle.cd_engine.specs.Behaving.{compacting}
 use Rattle.cd_engine.specs.Compacting.{Writes, Tells, used_bytes, CompactsTaken, Compacts, CompactsTold, WriteOutranks, IsServedCapture}
 use Rattle.cd_engine.specs.Compactions.{IsClosedPartOf}
 use Rattle.cd_engine.specs.Counting.{AreCountsOf, no_counts}
-use Rattle.cd_engine.specs.Endings.{ended_for, ended_of}
-use Rattle.cd_engine.specs.Events.{rules_of}
+use Rattle.cd_engine.specs.Endings.{ended_of}
 use Rattle.cd_engine.specs.declared.counts.Counts.{Counts}
 use Rattle.cd_engine.specs.declared.ended.Ended.{Ended}
 use Rattle.cd_engine.specs.declared.ended.Ended.TheVariants as ended
-use Rattle.cd_engine.specs.declared.refusal.Refusal.{Refusal}
-use Rattle.cd_engine.specs.declared.refusal.Refusal.TheVariants as refused
 use Rattle.cd_engine.proofs.OneFile.{file_is_whole, front_is_closed_part, counts_hold}
 use Rattle.cd_engine.proofs.Refusing.{served_unrefused}
 use Rattle.cd_engine.proofs.RunsEnd.{AreRefusals, ended_stop, reads_on, goes_on, consumes_none, none_taken}
-use Rattle.cd_engine.specs.CapturesGo.{refusal_few}
+use Rattle.cd_engine.specs.CapturesGo.{nothing_unrefused}
+
+-- how a compaction ends by a refusal
+abbrev pub ended_bad : BadCapture → Ended
+ended_bad bad = ended.BadCapture bad
 
 -- each refusal of a capture ends a compaction so
-pub are_refusals : AreRefusals ended_for
-are_refusals (refused.BadCapture b) = tt
-are_refusals (refused.NotYet at) = tt
+pub are_refusals : AreRefusals ended_bad
+are_refusals bad = tt
 
 -- the counts are told
-tells_at : (s : Settings) (bytes : List ℕ) (e : Stop Refusal) (counts : Counts) → AreCountsOf s bytes counts → Tells s bytes (ended_of ended_for e) counts
-tells_at s bytes e counts h = goes_on ended_for are_refusals (counts ≡ no_counts) (AreCountsOf s bytes counts) e h
+tells_at : (s : Settings) (bytes : List ℕ) (e : Stop BadCapture) (counts : Counts) → AreCountsOf s bytes counts → Tells s bytes (ended_of ended_bad e) counts
+tells_at s bytes e counts h = goes_on ended_bad are_refusals (counts ≡ no_counts) (AreCountsOf s bytes counts) e h
 
 -- the file is written
-writes_at : (old new : SinkMeaning) (e : Stop Refusal) (bytes : List ℕ) → Appends old.contents new.contents bytes → Writes old new (ended_of ended_for e) bytes
-writes_at old new e bytes h = goes_on ended_for are_refusals (AppendsPrefix old.contents new.contents bytes) (Appends old.contents new.contents bytes) e h
+writes_at : (old new : SinkMeaning) (e : Stop BadCapture) (bytes : List ℕ) → Appends old.contents new.contents bytes → Writes old new (ended_of ended_bad e) bytes
+writes_at old new e bytes h = goes_on ended_bad are_refusals (AppendsPrefix old.contents new.contents bytes) (Appends old.contents new.contents bytes) e h
 
 -- how a drive ends a compaction, with what counts
-abbrev pub answer_of : Result (Driven Refusal Counts) SinkFault → Ended × Counts
-answer_of (Ok driven) = (ended_of ended_for driven.stop, driven.counts)
+abbrev pub answer_of : Result (Driven BadCapture Counts) SinkFault → Ended × Counts
+answer_of (Ok driven) = (ended_of ended_bad driven.stop, driven.counts)
 answer_of (Err fault.Failed) = (ended.WriteFault, no_counts)
 answer_of (Err fault.NoMemory) = (ended.NoMemory, no_counts)
 
 -- what was closed early was written
-early_on : (s : Settings) (so sn : SourceMeaning) (ko kn : SinkMeaning) (r : Result (Driven Refusal Counts) SinkFault)
+early_on : (s : Settings) (so sn : SourceMeaning) (ko kn : SinkMeaning) (r : Result (Driven BadCapture Counts) SinkFault)
     (taken : List ℕ) → DrivesOn (compacting s) s.max_input so sn ko kn r taken → 65536 < length taken → (front : List ℕ) →
     IsClosedPartOf s (take (length taken - 65536) taken) front → AppendsMore ko.contents kn.contents front
 early_on s so sn ko kn r taken h many front is =
@@ -58,15 +59,15 @@ early_on s so sn ko kn r taken h many front is =
     subst P (sym (front_is_closed_part s (take (length taken - 65536) taken) front is)) (h.early many)
 
 -- what a drive did is what a compaction does
-pub compacts_on : (s : Settings) → IsValid s → (so sn : SourceMeaning) (ko kn : SinkMeaning) (r : Result (Driven Refusal Counts) SinkFault)
+pub compacts_on : (s : Settings) → IsValid s → (so sn : SourceMeaning) (ko kn : SinkMeaning) (r : Result (Driven BadCapture Counts) SinkFault)
     (taken : List ℕ) → DrivesOn (compacting s) s.max_input so sn ko kn r taken → CompactsTaken s so sn ko kn (answer_of r) taken
 compacts_on s valid so sn ko kn (Ok driven) taken h =
     let used : List ℕ = used_bytes s taken in
     let P : Counts → Type 0 = λ c. AreCountsOf s used c in
     let Q : List ℕ → Type 0 = λ t. Appends ko.contents kn.contents t in
     record {
-      stops = reads_on (compacting s) ended_for s.max_input so sn ko kn taken h.reads;
-      ending = inl (ap (ended_of ended_for) h.stop ∙ ended_stop (compacting s) ended_for s.max_input taken sn.ended);
+      stops = reads_on (compacting s) ended_bad s.max_input so sn ko kn taken h.reads;
+      ending = inl (ap (ended_of ended_bad) h.stop ∙ ended_stop (compacting s) ended_bad s.max_input taken sn.ended);
       counts = tells_at s used driven.stop driven.counts (subst P (sym h.counts) (counts_hold s used valid));
       file = λ file is. writes_at ko kn driven.stop file (subst Q (sym (file_is_whole s used file is)) h.output.bytes);
       early = λ many front is. early_on s so sn ko kn (Ok driven) taken h many front is;
@@ -74,7 +75,7 @@ compacts_on s valid so sn ko kn (Ok driven) taken h =
 compacts_on s valid so sn ko kn (Err fault.Failed) taken h =
     let Q : List ℕ → Type 0 = λ t. AppendsPrefix ko.contents kn.contents t in
     record {
-      stops = reads_on (compacting s) ended_for s.max_input so sn ko kn taken h.reads;
+      stops = reads_on (compacting s) ended_bad s.max_input so sn ko kn taken h.reads;
       ending = inr tt;
       counts = refl;
       file = λ file is. subst Q (sym (file_is_whole s (used_bytes s taken) file is)) h.output.bytes;
@@ -83,18 +84,18 @@ compacts_on s valid so sn ko kn (Err fault.Failed) taken h =
 compacts_on s valid so sn ko kn (Err fault.NoMemory) taken h =
     let Q : List ℕ → Type 0 = λ t. AppendsPrefix ko.contents kn.contents t in
     record {
-      stops = reads_on (compacting s) ended_for s.max_input so sn ko kn taken h.reads;
+      stops = reads_on (compacting s) ended_bad s.max_input so sn ko kn taken h.reads;
       ending = inr tt;
       counts = refl;
       file = λ file is. subst Q (sym (file_is_whole s (used_bytes s taken) file is)) h.output.bytes;
       early = λ many front is. early_on s so sn ko kn (Err fault.NoMemory) taken h many front is;
     }
 
-pub compacts_driven : (s : Settings) → IsValid s → (so sn : SourceMeaning) (ko kn : SinkMeaning) (r : Result (Driven Refusal Counts) SinkFault) →
+pub compacts_driven : (s : Settings) → IsValid s → (so sn : SourceMeaning) (ko kn : SinkMeaning) (r : Result (Driven BadCapture Counts) SinkFault) →
     Drives (compacting s) s.max_input so sn ko kn r → Compacts s so sn ko kn (answer_of r)
 compacts_driven s valid so sn ko kn r h = (h.0, h.1, compacts_on s valid so sn ko kn r h.0 h.2)
 
-pub told_driven : (s : Settings) → IsValid s → (so sn : SourceMeaning) (ko kn : SinkMeaning) (r : Result (Driven Refusal Counts) SinkFault) →
+pub told_driven : (s : Settings) → IsValid s → (so sn : SourceMeaning) (ko kn : SinkMeaning) (r : Result (Driven BadCapture Counts) SinkFault) →
     DrivesTold (compacting s) s.max_input so sn ko kn r → CompactsTold s so sn ko kn (answer_of r)
 told_driven s valid so sn ko kn r h = λ taken is. compacts_on s valid so sn ko kn r taken (h taken is)
 
@@ -104,7 +105,7 @@ no_failure true after e sound failed = absurd cc
 no_failure false after e sound failed = false≢true (sym e ∙ failed)
 
 -- a fault of the sink outranks all but want of memory
-pub outranks_driven : (b : Behavior Refusal Counts) (max : ℕ) (so sn : SourceMeaning) (ko kn : SinkMeaning) (r : Result (Driven Refusal Counts) SinkFault) →
+pub outranks_driven : (b : Behavior BadCapture Counts) (max : ℕ) (so sn : SourceMeaning) (ko kn : SinkMeaning) (r : Result (Driven BadCapture Counts) SinkFault) →
     Drives b max so sn ko kn r → WriteOutranks ko kn (answer_of r).0
 outranks_driven b max so sn ko kn (Ok driven) h = record {
   failed = λ sound failed. absurd (no_failure ko.failed kn.failed h.2.output.failed sound failed);
@@ -116,12 +117,12 @@ outranks_driven b max so sn ko kn (Err fault.NoMemory) h = record { failed = λ 
 -- a capture that can be compacted is accepted
 pub served_accepted : (s : Settings) (bytes : List ℕ) → IsServedCapture s bytes → IsAccepted (compacting s) s.max_input bytes
 served_accepted s bytes h =
-    let k = served_unrefused (rules_of s) bytes h.format h.end h.packets in
+    let k = served_unrefused bytes h.end in
     record { few = h.few; taken = k.now; ended = k.at_end }
 
 -- a drive that is done is a compaction that is
-pub done_driven : (r : Result (Driven Refusal Counts) SinkFault) → IsDone r → ((answer_of r).0 ≡ ended.Done) ⊎ ((answer_of r).0 ≡ ended.NoMemory)
-done_driven (Ok driven) h = inl (ap (ended_of ended_for) h)
+pub done_driven : (r : Result (Driven BadCapture Counts) SinkFault) → IsDone r → ((answer_of r).0 ≡ ended.Done) ⊎ ((answer_of r).0 ≡ ended.NoMemory)
+done_driven (Ok driven) h = inl (ap (ended_of ended_bad) h)
 done_driven (Err fault.Failed) h = absurd cc
 done_driven (Err fault.NoMemory) h = inr refl
 
@@ -133,7 +134,7 @@ nothing_taken s so ko = record {
     last = [];
     split = refl;
     chunk = omega arith;
-    undecided = refusal_few (rules_of s) [] (omega arith);
+    undecided = nothing_unrefused;
     within = omega arith;
     few = omega arith;
     calls = omega arith;

@@ -19,17 +19,15 @@ use Rattle.cd_message.specs.declared.message.Message.{Message}
 use Rattle.cd_message.specs.declared.message.MsgWhy.{MsgWhy}
 use Rattle.cd_message.specs.declared.message.Rr.{Rr}
 use Rattle.cd_packet.proofs.Payloads.{layer_within}
-use Rattle.cd_packet.specs.Layers.{Found, Datagram, datagram, skipped}
+use Rattle.cd_packet.specs.Layers.{Found, Datagram, datagram, skipped, layer_of}
 use Rattle.cd_packet.specs.declared.packet.Packet.{Packet}
-use Rattle.cd_pcap.specs.Laws.{record_size}
-use Rattle.cd_pcap.specs.Pcap.{pcap}
+use Rattle.cd_capture.specs.Formats.{capture}
+use Rattle.cd_capture.specs.Laws.{record_size}
 use Rattle.cd_record.specs.Cutting.{as_runs}
 use Rattle.cd_record.specs.Runs.{Limits, limits_of}
 use Rattle.cd_engine.specs.Behaving.{is_admissible, CutRecords, cut_more, cut_of, runs_of, all_records, counts_in}
-use Rattle.cd_engine.specs.Counting.{is_pair, is_cut_short, packet_counts, record_counts, counts_of, held_in_64, held_packet_counts, held_record_counts}
-use Rattle.cd_engine.proofs.LayersRead.{read_datagram}
-use Rattle.cd_engine.specs.Events.{rules_of, event_found, event_of, events_of, read_layer}
-use Rattle.cd_engine.specs.Refusals.{refusal_at_end, compacted_packets}
+use Rattle.cd_engine.specs.Counting.{is_pair, is_cut, packet_counts, record_counts, counts_of, held_in_64, held_packet_counts, held_record_counts}
+use Rattle.cd_engine.specs.Events.{rules_of, event_found, event_of, events_of}
 use Rattle.cd_engine.specs.declared.counts.PacketCounts.{PacketCounts}
 use Rattle.cd_engine.specs.declared.counts.RecordCounts.{RecordCounts}
 use Rattle.cd_engine.proofs.PacketCounting.{held_small, few_packets, packets_fit}
@@ -66,17 +64,17 @@ event_rrs rules d = reading_rrs rules d (message_of d.payload)
 abbrev one : EventParts → ℕ
 one e = 1
 
-found_rrs : (rules : EventRules) (p : Packet) (f : Found) → read_layer rules.port p ≡ f → 16 * of_event rrs (event_found rules f) ≤ 829 * record_size p
+found_rrs : (rules : EventRules) (p : Packet) (f : Found) → layer_of rules.port p ≡ f → 16 * of_event rrs (event_found rules f) ≤ 829 * record_size p
 found_rrs rules p (skipped r) is = omega arith
 found_rrs rules p (datagram d) is =
     elim (cases_Bool (nat_lt 65535 (length d.payload))) [
       | inl long ↦ rw long (omega arith)
-      | inr fits ↦ rw fits (omega (arith, event_rrs rules d, event_weights_are_linear rules d, layer_within rules.port p d (read_datagram rules.port p d is)))
+      | inr fits ↦ rw fits (omega (arith, event_rrs rules d, event_weights_are_linear rules d, layer_within rules.port p d is))
     ]
 
 packet_rrs : (rules : EventRules) (p : Packet) → 16 * of_event rrs (event_of rules p) ≤ 829 * record_size p
 unfolding event_of
-packet_rrs rules p = found_rrs rules p (read_layer rules.port p) refl
+packet_rrs rules p = found_rrs rules p (layer_of rules.port p) refl
 
 option_one : (o : Option EventParts) → of_event one o ≤ 1
 option_one None = omega arith
@@ -208,22 +206,22 @@ records_fit s ps small =
 
 -- What was counted one by one is what is counted of the bytes.
 pub counts_known : (s : Settings) (bytes : List ℕ) (given : List Packet) (p : PacketCounts) (r : RecordCounts) (n : ℕ) (cut : Bool) →
-    compacted_packets (rules_of s) bytes ≡ given → sum_by record_size given ≤ 2 ^ 48 →
+    (capture bytes).packets ≡ given → sum_by record_size given ≤ 2 ^ 48 →
     p ≡ held_packet_counts (packet_counts (rules_of s) given) →
     r ≡ held_record_counts (record_counts s.params.rr_types (all_records s (events_of (rules_of s) given))) →
     n ≡ held_in_64 (length (runs_of (limits_of s) (all_records s (events_of (rules_of s) given)))) →
-    cut ≡ is_cut_short (refusal_at_end (rules_of s) bytes) (pcap bytes).end → counts_of p r n cut ≡ counts_in s bytes
+    cut ≡ is_cut (capture bytes).end → counts_of p r n cut ≡ counts_in s bytes
 unfolding counts_in
-counts_known s bytes given p r n cut compacted small packets records runs short =
+counts_known s bytes given p r n cut all small packets records runs short =
     let rules : EventRules = rules_of s in
     let k = records_fit s given small in
-    let p_is : p ≡ packet_counts rules (compacted_packets rules bytes) =
-    packets ∙ packets_fit rules given (omega (arith, few_packets given, small)) ∙ ap (packet_counts rules) (sym compacted) in
+    let p_is : p ≡ packet_counts rules (capture bytes).packets =
+    packets ∙ packets_fit rules given (omega (arith, few_packets given, small)) ∙ ap (packet_counts rules) (sym all) in
     let exact : held_record_counts (record_counts s.params.rr_types (all_records s (events_of rules given)))
     ≡ record_counts s.params.rr_types (all_records s (events_of rules given)) =
     λ i. record { items = k.items_fit i; pairs = k.pairs_fit i; dropped = k.dropped_fit i } in
-    let r_is : r ≡ record_counts s.params.rr_types (all_records s (events_of rules (compacted_packets rules bytes))) =
-    records ∙ exact ∙ ap (λ ps. record_counts s.params.rr_types (all_records s (events_of rules ps))) (sym compacted) in
-    let n_is : n ≡ length (runs_of (limits_of s) (all_records s (events_of rules (compacted_packets rules bytes)))) =
-    runs ∙ k.runs_fit ∙ ap (λ ps. length (runs_of (limits_of s) (all_records s (events_of rules ps)))) (sym compacted) in
+    let r_is : r ≡ record_counts s.params.rr_types (all_records s (events_of rules (capture bytes).packets)) =
+    records ∙ exact ∙ ap (λ ps. record_counts s.params.rr_types (all_records s (events_of rules ps))) (sym all) in
+    let n_is : n ≡ length (runs_of (limits_of s) (all_records s (events_of rules (capture bytes).packets))) =
+    runs ∙ k.runs_fit ∙ ap (λ ps. length (runs_of (limits_of s) (all_records s (events_of rules ps)))) (sym all) in
     λ i. counts_of (p_is i) (r_is i) (n_is i) (short i)

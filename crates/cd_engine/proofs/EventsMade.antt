@@ -1,35 +1,23 @@
 -- The event that is made of a packet is the packet's, and weighs what its bytes allow.
-use Rattle.std.proofs.Common.{◌≡◌, ◌*◌, ◌≤◌, length, Some, None, refl, ap, sym, ◌∙◌, arith}
+use Rattle.std.proofs.Common.{◌≡◌, ◌*◌, ◌≤◌, length, Some, refl, ap, sym, ◌∙◌, arith}
 use Rattle.std.proofs.lemmas.Bool.{le-ltb}
+use Rattle.cd_capture.specs.Laws.{record_size}
 use Rattle.cd_ident.proofs.WeightBounds.{event_weights_are_bounded, event_weights_are_linear}
 use Rattle.cd_ident.specs.Events.{EventParts, event_parts}
 use Rattle.cd_ident.specs.declared.event_making.TheConstants.{GREATEST_WEIGHT}
 use Rattle.cd_ident.specs.declared.event_rules.EventRules.{EventRules}
 use Rattle.cd_packet.proofs.Payloads.{layer_within}
-use Rattle.cd_packet.specs.Layers.{Datagram, datagram, skipped, layer_of, IsEthernetIpv4}
-use Rattle.cd_packet.specs.declared.datagram.Reason.{Reason}
+use Rattle.cd_packet.specs.Layers.{Datagram, datagram, layer_of}
 use Rattle.cd_packet.specs.declared.packet.Packet.{Packet}
-use Rattle.cd_pcap.specs.Laws.{record_size}
-use Rattle.cd_engine.proofs.LayersRead.{read_ipv4, read_other}
 use Rattle.cd_engine.specs.Events.{event_found, event_of}
 
--- the event of a packet that is read and holds this datagram
-pub made : (rules : EventRules) (p : Packet) (d : Datagram) (e : EventParts) → IsEthernetIpv4 p → layer_of rules.port p ≡ datagram d →
-    e ≡ event_parts rules d → length d.payload ≤ 65535 → Some e ≡ event_of rules p
+-- the event of a packet that holds this datagram
+pub made : (rules : EventRules) (p : Packet) (d : Datagram) (e : EventParts) → layer_of rules.port p ≡ datagram d →
+    e ≡ event_parts rules d → length d.payload ≤ 65535 → event_of rules p ≡ Some e
 unfolding event_of
-made rules p d e read is parts fits =
+made rules p d e is parts fits =
     let found : event_found rules (datagram d) ≡ Some (event_parts rules d) = rw (le-ltb 65535 (length d.payload) fits) refl in
-    ap (λ x. Some x) parts ∙ sym found ∙ sym (ap (event_found rules) (read_ipv4 rules.port p read ∙ is))
-
--- a packet without a datagram has none
-pub none_made : (rules : EventRules) (p : Packet) (r : Reason) → IsEthernetIpv4 p → layer_of rules.port p ≡ skipped r → None ≡ event_of rules p
-unfolding event_of
-none_made rules p r read is = sym (ap (event_found rules) (read_ipv4 rules.port p read ∙ is))
-
--- nor has one that is not read
-pub unread_made : (rules : EventRules) (p : Packet) → (IsEthernetIpv4 p → ⊥) → None ≡ event_of rules p
-unfolding event_of
-unread_made rules p other = sym (ap (event_found rules) (read_other rules.port p other))
+    ap (event_found rules) is ∙ found ∙ ap (λ x. Some x) (sym parts)
 
 -- it weighs no more than that of a datagram
 pub made_light : (rules : EventRules) (d : Datagram) (e : EventParts) → e ≡ event_parts rules d → length d.payload ≤ 65535 → e.weight ≤ GREATEST_WEIGHT

@@ -19,7 +19,8 @@ use Rattle.cd_hints.specs.declared.settings.Settings.{Settings}
 use Rattle.cd_ident.specs.Events.{EventParts}
 use Rattle.cd_ident.specs.declared.event_rules.EventRules.{EventRules}
 use Rattle.cd_message.specs.MessageLaws.{AreBytes}
-use Rattle.cd_packet.specs.Layers.{Found, datagram, skipped}
+use Rattle.cd_capture.specs.Formats.{capture}
+use Rattle.cd_packet.specs.Layers.{Found, datagram, skipped, layer_of}
 use Rattle.cd_packet.specs.declared.packet.Packet.{Packet}
 use Rattle.cd_pairing.specs.Records.{Record}
 use Rattle.cd_record.specs.Blocks.{kept_block}
@@ -31,13 +32,13 @@ use Rattle.cd_size.proofs.EventTimes.{events_timed}
 use Rattle.cd_size.proofs.NamesKept.{blocks_named}
 use Rattle.cd_size.proofs.RunsReadable.{blocks_readable}
 use Rattle.cd_engine.specs.Compactions.{blocks_of, but_last}
-use Rattle.cd_engine.proofs.LayersRead.{read_datagram}
-use Rattle.cd_engine.specs.Events.{rules_of, event_found, event_of, events_of, read_layer}
+use Rattle.cd_engine.specs.Events.{rules_of, event_found, event_of, events_of}
 use Rattle.cd_engine.specs.ReadBack.{ParamsInRange, FilesAreReadBack, FilesAreKept, ClosedPartsAreReadBack}
 use Rattle.cd_engine.specs.Records.{records_at}
-use Rattle.cd_engine.specs.Refusals.{refusal_at_end, compacted_bytes, compacted_packets, compacted_events}
+use Rattle.cd_engine.specs.Refusals.{compacted_events}
 use Rattle.cd_engine.proofs.EventsHave.{filter_map_each, of_records, of_runs, each_of}
-use Rattle.cd_engine.proofs.PacketBytes.{HasBytes, packets_have_bytes, before_are_bytes}
+use Rattle.cd_engine.proofs.PacketBytes.{packets_have_bytes}
+use Rattle.cd_engine.proofs.PcapBytes.{HasBytes}
 
 -- what is said of a value that is there, in other words
 if_weaker : (P Q : ℕ → Type 0) → ((n : ℕ) → P n → Q n) → (o : Option ℕ) → IfSome o P → IfSome o Q
@@ -105,18 +106,18 @@ params_readable s valid range =
 abbrev IsKept : EventParts → Type 0
 IsKept e = EventInRange e × EventIsTimed e
 
-found_kept : (rules : EventRules) (p : Packet) → HasBytes p → (f : Found) → read_layer rules.port p ≡ f → IfSome (event_found rules f) IsKept
+found_kept : (rules : EventRules) (p : Packet) → HasBytes p → (f : Found) → layer_of rules.port p ≡ f → IfSome (event_found rules f) IsKept
 found_kept rules p bytes (skipped reason) is = tt
 found_kept rules p bytes (datagram d) is =
     elim (cases_lt 65535 (length d.payload)) [
       | inl long ↦ rw (lt-ltb 65535 (length d.payload) long) tt
       | inr short ↦ rw (le-ltb 65535 (length d.payload) short)
-          (events_in_range rules d (datagrams_in_range rules.port p d bytes (read_datagram rules.port p d is)), events_timed rules p d (read_datagram rules.port p d is) short)
+          (events_in_range rules d (datagrams_in_range rules.port p d bytes is), events_timed rules p d is short)
     ]
 
 packet_kept : (rules : EventRules) (p : Packet) → HasBytes p → IfSome (event_of rules p) IsKept
 unfolding event_of
-packet_kept rules p bytes = found_kept rules p bytes (read_layer rules.port p) refl
+packet_kept rules p bytes = found_kept rules p bytes (layer_of rules.port p) refl
 
 events_kept : (rules : EventRules) (ps : List Packet) → All HasBytes ps → All IsKept (events_of rules ps)
 events_kept rules [] all = All-nil IsKept
@@ -126,9 +127,7 @@ events_kept rules (p ∷ ps) all =
 
 -- those of a capture of bytes
 compacted_kept : (rules : EventRules) (bytes : List ℕ) → AreBytes bytes → All IsKept (compacted_events rules bytes)
-unfolding compacted_packets
-compacted_kept rules bytes all =
-    events_kept rules _ (packets_have_bytes (compacted_bytes rules bytes) (before_are_bytes (refusal_at_end rules bytes) bytes all))
+compacted_kept rules bytes all = events_kept rules (capture bytes).packets (packets_have_bytes bytes all)
 
 all_first : (es : List EventParts) → All IsKept es → All EventInRange es
 all_first [] all = All-nil EventInRange

@@ -19,6 +19,9 @@ pub mod RunsEnd
 pub mod Compacted
 pub mod Checked
 pub mod EventsHave
+pub mod PcapBytes
+pub mod PcapngBytes
 pub mod PacketBytes
+pub mod EachPacketCounted
+pub mod ItemsAndPairs
 pub mod FilesReadBack
-pub mod LayersRead

@@ -12,20 +12,19 @@ use Rattle.cd_pairing.specs.Events.{EventView}
 use Rattle.cd_pairing.specs.Pairing.{IsPairing, are_compatible}
 use Rattle.cd_pairing.specs.Records.{Record, records, released_records}
 use Rattle.cd_pairing.specs.declared.keyed.Windows.{Windows}
-use Rattle.cd_pcap.specs.Pcap.{pcap}
+use Rattle.cd_capture.specs.Formats.{capture}
 use Rattle.cd_record.specs.Runs.{limits_of, AreRuns}
 use Rattle.cd_engine.proofs.LightRecords.{records_admissible}
 use Rattle.cd_engine.proofs.OneCutting.{runs_hold, runs_only, closed_only}
 use Rattle.cd_engine.proofs.Weights.{compacted_light}
 use Rattle.cd_engine.specs.Behaving.{partners_of, cut_of, runs_of, all_records, settled_records, file_of_events, closed_part_of_events, events_in, whole_file, closed_part, counts_in}
 use Rattle.cd_engine.specs.Compactions.{blocks_of, Compaction, IsFileOf, but_last, ReleasedRuns, IsClosedPartOf}
-use Rattle.cd_engine.specs.Counting.{packet_counts, record_counts, is_cut_short, counts_of, AreCountsOf}
+use Rattle.cd_engine.specs.Counting.{packet_counts, record_counts, is_cut, counts_of, AreCountsOf}
 use Rattle.cd_engine.specs.Events.{rules_of}
 use Rattle.cd_engine.specs.Laws.{EachCaptureHasOneFile, EachCaptureHasOneClosedPart, EachCaptureHasOneCounts}
 use Rattle.cd_engine.specs.Lawful.{compacting_lawful}
 use Rattle.cd_engine.specs.Records.{windows_of, views_of, records_at}
 use Rattle.cd_engine.specs.RecordsGo.{partners_pair}
-use Rattle.cd_engine.specs.Refusals.{refusal_at_end, compacted_packets}
 use Rattle.cd_engine.specs.declared.counts.Counts.{Counts}
 
 -- no other partners are a pairing
@@ -83,8 +82,8 @@ counts_only s bytes counts is =
     let events : List EventParts = events_in s bytes in
     let rules : EventRules = rules_of s in
     let total : List RecordParts → ℕ → Counts = λ rs blocks.
-    counts_of (packet_counts rules (compacted_packets rules bytes)) (record_counts s.params.rr_types rs) blocks
-    (is_cut_short (refusal_at_end rules bytes) (pcap bytes).end) in
+    counts_of (packet_counts rules (capture bytes).packets) (record_counts s.params.rr_types rs) blocks
+    (is_cut (capture bytes).end) in
     let P : List (Option ℕ) → Type 0 = λ p. AreRuns (limits_of s) (records_at events (records p)) is.compaction.runs in
     let same = partners_only (windows_of s) (views_of events) is.compaction.partners is.compaction.pairing in
     is.same

@@ -24,16 +24,16 @@ use Rattle.cd_engine.specs.Behaving.{partners_of, all_records}
 use Rattle.cd_engine.specs.Records.{windows_of, views_of, single_of_kind, single_record, pair_of_kind, pair_record, record_at, records_at}
 
 -- what a number for each position sums to over a record
-abbrev at_record : (ℕ → ℕ) → Record → ℕ
+abbrev pub at_record : (ℕ → ℕ) → Record → ℕ
 at_record w (positions.pair i j) = w i + w j
 at_record w (positions.single i) = w i
 
 -- over some records
-abbrev sum_at : (ℕ → ℕ) → List Record → ℕ
+abbrev pub sum_at : (ℕ → ℕ) → List Record → ℕ
 sum_at w rs = sum_by (at_record w) rs
 
 -- over so many positions
-abbrev total : (ℕ → ℕ) → ℕ → ℕ
+abbrev pub total : (ℕ → ℕ) → ℕ → ℕ
 total w zero = 0
 total w (suc n) = total w n + w n
 
@@ -90,7 +90,7 @@ joined_sum w q a n size before free =
     ∙ set_more w 0 n q a (omega arith) free (omega arith)
 
 -- each position stands in one record
-matching_sum : (R : ℕ → ℕ → Bool) (w : ℕ → ℕ) (n : ℕ) (p : List (Option ℕ)) → IsMatching R n p →
+pub matching_sum : (R : ℕ → ℕ → Bool) (w : ℕ → ℕ) (n : ℕ) (p : List (Option ℕ)) → IsMatching R n p →
     sum_at w (records_from 0 p) ≡ total w n
 matching_sum R w zero p holds = ap (λ q. sum_at w (records_from 0 q)) (unique R 0 p [] holds (nobody R))
 matching_sum R w (suc n) p holds =
@@ -151,7 +151,7 @@ found_pair f (Some a) None = omega arith
 found_pair f (Some a) (Some b) = pair_sum f a.kind a b
 
 -- the number at a position
-abbrev at_place : (EventParts → ℕ) → List EventParts → ℕ → ℕ
+abbrev pub at_place : (EventParts → ℕ) → List EventParts → ℕ → ℕ
 at_place f events i = of_event f (slice_get events i)
 
 found_sum : (f : EventParts → ℕ) (events : List EventParts) (r : Record) → of_found f (record_at events r) ≤ at_record (at_place f events) r
@@ -180,7 +180,7 @@ total_first : (w : ℕ → ℕ) (n : ℕ) → total w (suc n) ≡ w 0 + total (�
 total_first w zero = omega arith
 total_first w (suc n) = let h = total_first w n in omega arith
 
-total_events : (f : EventParts → ℕ) (events : List EventParts) → total (at_place f events) (length events) ≡ sum_by f events
+pub total_events : (f : EventParts → ℕ) (events : List EventParts) → total (at_place f events) (length events) ≡ sum_by f events
 total_events f [] = refl
 total_events f (e ∷ es) =
     total_first (at_place f (e ∷ es)) (length es) ∙ ap (λ n. f e + n) (total_events f es) ∙ sym (sum_by-cons f e es)

@@ -61,7 +61,6 @@ reads_on b f max so sn ko kn taken r = record {
 abbrev pub IsRefusal : Ended → Type 0
 IsRefusal (ended.BadCapture b) = ⊤
 IsRefusal (ended.BadFile b) = ⊤
-IsRefusal (ended.NotYet at) = ⊤
 IsRefusal ended.Done = ⊥
 IsRefusal ended.ReadFault = ⊥
 IsRefusal ended.WriteFault = ⊥
@@ -79,7 +78,6 @@ no_refusal x y e is = let P : Ended → Type 0 = λ z. IsRefusal z in subst P e 
 refusal_goes : (P Q : Type 0) (x : Ended) → IsRefusal x → Q → IfStopped x P Q
 refusal_goes P Q (ended.BadCapture b) is q = q
 refusal_goes P Q (ended.BadFile b) is q = q
-refusal_goes P Q (ended.NotYet at) is q = q
 refusal_goes P Q ended.Done is q = absurd is
 refusal_goes P Q ended.ReadFault is q = absurd is
 refusal_goes P Q ended.WriteFault is q = absurd is

@@ -10,14 +10,12 @@ use Rattle.cd_ident.proofs.WeightBounds.{event_weights_are_linear, event_weights
 use Rattle.cd_ident.specs.Events.{EventParts}
 use Rattle.cd_ident.specs.declared.event_rules.EventRules.{EventRules}
 use Rattle.cd_packet.proofs.Payloads.{layer_within}
-use Rattle.cd_packet.specs.Layers.{Found, datagram, skipped}
+use Rattle.cd_packet.specs.Layers.{Found, datagram, skipped, layer_of}
 use Rattle.cd_packet.specs.declared.packet.Packet.{Packet}
-use Rattle.cd_pcap.proofs.Sizes.{packets_within}
-use Rattle.cd_pcap.specs.Laws.{record_size}
-use Rattle.cd_pcap.specs.Pcap.{pcap}
-use Rattle.cd_engine.proofs.LayersRead.{read_datagram}
-use Rattle.cd_engine.specs.Events.{rules_of, event_found, event_of, events_of, read_layer}
-use Rattle.cd_engine.specs.Refusals.{compacted_packets}
+use Rattle.cd_capture.proofs.Growing.{packets_within}
+use Rattle.cd_capture.specs.Formats.{capture}
+use Rattle.cd_capture.specs.Laws.{record_size}
+use Rattle.cd_engine.specs.Events.{rules_of, event_found, event_of, events_of}
 use Rattle.cd_record.specs.Laws.{IsLight}
 use Rattle.cd_engine.specs.Behaving.{events_in}
 use Rattle.cd_engine.specs.Laws.{EventsAreLinear, EventsAreLight}
@@ -28,19 +26,19 @@ weight_of None = 0
 weight_of (Some e) = e.weight
 
 -- what was found in a packet weighs no more than its record allows
-found_weight : (rules : EventRules) (p : Packet) (f : Found) → read_layer rules.port p ≡ f → 16 * weight_of (event_found rules f) ≤ 829 * record_size p
+found_weight : (rules : EventRules) (p : Packet) (f : Found) → layer_of rules.port p ≡ f → 16 * weight_of (event_found rules f) ≤ 829 * record_size p
 found_weight rules p (skipped reason) is = omega arith
 found_weight rules p (datagram d) is =
     elim (cases_lt 65535 (length d.payload)) [
       | inl long ↦ rw (lt-ltb 65535 (length d.payload) long) (omega arith)
       | inr short ↦ rw (le-ltb 65535 (length d.payload) short)
-          (omega (arith, event_weights_are_linear rules d, layer_within rules.port p d (read_datagram rules.port p d is)))
+          (omega (arith, event_weights_are_linear rules d, layer_within rules.port p d is))
     ]
 
 -- the event of a packet
 pub event_weight : (rules : EventRules) (p : Packet) → 16 * weight_of (event_of rules p) ≤ 829 * record_size p
 unfolding event_of
-event_weight rules p = found_weight rules p (read_layer rules.port p) refl
+event_weight rules p = found_weight rules p (layer_of rules.port p) refl
 
 abbrev pub weight : EventParts → ℕ
 weight e = e.weight
@@ -61,7 +59,7 @@ events_weight rules (p ∷ ps) =
 
 -- those of a capture weigh no more than its bytes allow
 pub events_are_linear : EventsAreLinear
-events_are_linear rules bytes = omega (arith, events_weight rules (pcap bytes).packets, packets_within bytes)
+events_are_linear rules bytes = omega (arith, events_weight rules (capture bytes).packets, packets_within bytes)
 
 -- those of at most 2^48 bytes weigh less than 2^63
 pub events_are_light : EventsAreLight
@@ -79,7 +77,7 @@ found_light rules (datagram d) =
 -- the event of a packet
 pub packet_light : (rules : EventRules) (p : Packet) → IfSome (event_of rules p) IsLight
 unfolding event_of
-packet_light rules p = found_light rules (read_layer rules.port p)
+packet_light rules p = found_light rules (layer_of rules.port p)
 
 light_more : (f : Packet → Option EventParts) (p : Packet) (ps : List Packet) (o : Option EventParts) → f p ≡ o → IfSome o IsLight →
     All IsLight (filter_map f ps) → All IsLight (filter_map f (p ∷ ps))
@@ -93,4 +91,4 @@ events_light rules (p ∷ ps) = light_more (event_of rules) p ps (event_of rules
 
 -- those that are compacted
 pub compacted_light : (s : Settings) (bytes : List ℕ) → All IsLight (events_in s bytes)
-compacted_light s bytes = events_light (rules_of s) (compacted_packets (rules_of s) bytes)
+compacted_light s bytes = events_light (rules_of s) (capture bytes).packets

@@ -11,16 +11,17 @@ use Rattle.cd_pairing.specs.Events.{EventView}
 use Rattle.cd_pairing.specs.Pairing.{are_compatible}
 use Rattle.cd_pairing.specs.Records.{records, released_records}
 use Rattle.cd_pairing.specs.declared.keyed.Windows.{Windows}
-use Rattle.cd_pcap.specs.Pcap.{pcap}
+use Rattle.cd_capture.specs.Formats.{capture}
+use Rattle.cd_capture.specs.Reading.{refusal_of}
+use Rattle.cd_packet.specs.declared.capture.BadCapture.{BadCapture}
 use Rattle.cd_record.specs.Cutting.{as_runs}
 use Rattle.cd_record.specs.Runs.{Limits, limits_of, run_weight}
 use Rattle.cd_engine.specs.Compactions.{blocks_of}
-use Rattle.cd_engine.specs.Counting.{counts_of, packet_counts, record_counts, is_cut_short}
+use Rattle.cd_engine.specs.Counting.{counts_of, packet_counts, record_counts, is_cut}
 use Rattle.cd_engine.specs.Events.{rules_of}
 use Rattle.cd_engine.specs.Records.{windows_of, views_of, records_at}
-use Rattle.cd_engine.specs.Refusals.{refusal, refusal_at_end, compacted_packets, compacted_events}
+use Rattle.cd_engine.specs.Refusals.{refusal_at_end, compacted_events}
 use Rattle.cd_engine.specs.declared.counts.Counts.{Counts}
-use Rattle.cd_engine.specs.declared.refusal.Refusal.{Refusal}
 
 -- each position's partner in the one pairing
 unfoldable pub partners_of : Windows → List EventView → List (Option ℕ)
@@ -85,16 +86,16 @@ closed_part s bytes = closed_part_of_events s (events_in s bytes)
 
 -- the counts of the bytes
 unfoldable pub counts_in : Settings → List ℕ → Counts
-counts_in s bytes = counts_of (packet_counts (rules_of s) (compacted_packets (rules_of s) bytes))
+counts_in s bytes = counts_of (packet_counts (rules_of s) (capture bytes).packets)
     (record_counts s.params.rr_types (all_records s (events_in s bytes)))
     (length (runs_of (limits_of s) (all_records s (events_in s bytes))))
-    (is_cut_short (refusal_at_end (rules_of s) bytes) (pcap bytes).end)
+    (is_cut (capture bytes).end)
 
 -- what a compaction under these settings makes of bytes
-abbrev pub compacting : Settings → Behavior Refusal Counts
+abbrev pub compacting : Settings → Behavior BadCapture Counts
 compacting s = record {
-  refusal = refusal (rules_of s);
-  at_end = refusal_at_end (rules_of s);
+  refusal = refusal_of;
+  at_end = refusal_at_end;
   ready = closed_part s;
   whole = whole_file s;
   counts = counts_in s;

@@ -4,8 +4,7 @@ use Rattle.cd_drive.specs.Driving.{Took, IsTaken}
 use Rattle.cd_file.specs.KeptFile.{kept_file, kept_refusal_in, told_kept_refusal}
 use Rattle.cd_file.specs.ReadFile.{Whole}
 use Rattle.cd_file.specs.declared.refusal.BadFile.{BadFile}
-use Rattle.cd_inspection.specs.Inspecting.{inspected_in}
-use Rattle.cd_inspection.specs.ReadCounting.{counting, no_read_counts}
+use Rattle.cd_inspection.specs.ReadCounting.{no_read_counts, read_counts}
 use Rattle.cd_inspection.specs.declared.counting.ReadCounts.{ReadCounts}
 use Rattle.cd_ports.specs.Reading.{SourceMeaning}
 use Rattle.cd_engine.specs.Endings.{Judging, StopsInTime, ended_in, IfStopped, EndsAs}
@@ -22,7 +21,7 @@ judging_files = record {
 
 -- these are the counts of the blocks that the bytes hold, up to the first refusal
 abbrev pub AreReadCountsOf : List ℕ → ReadCounts → Type 0
-AreReadCountsOf bytes counts = counts ≡ (inspected_in counting (kept_file bytes)).counts
+AreReadCountsOf bytes counts = counts ≡ read_counts (kept_file bytes).blocks
 
 -- these are the counts of the bytes, or all are 0 where memory ran out
 abbrev pub TellsRead : List ℕ → Ended → ReadCounts → Type 0

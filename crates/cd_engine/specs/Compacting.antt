@@ -1,17 +1,15 @@
 -- What `compact_plain` answers, reads and writes.
-use Rattle.std.specs.Prelude.{◌≡◌, ℕ, ◌-◌, ◌<◌, ◌≤◌, true, false, List, length, take, None}
+use Rattle.std.specs.Prelude.{◌≡◌, ℕ, ◌-◌, ◌<◌, ◌≤◌, true, false, List, length, take}
 use Rattle.std.specs.Io.KnownBytes.{Appends}
 use Rattle.cd_drive.specs.Driving.{Took, AppendsMore, IsTaken}
 use Rattle.cd_hints.specs.declared.settings.Settings.{Settings}
 use Rattle.cd_packet.specs.Capture.{IsWholeOrCut}
-use Rattle.cd_pcap.specs.Pcap.{pcap}
+use Rattle.cd_capture.specs.Formats.{capture}
 use Rattle.cd_ports.specs.Reading.{SourceMeaning}
 use Rattle.cd_ports.specs.Writing.{SinkMeaning, AppendsPrefix}
 use Rattle.cd_engine.specs.Compactions.{IsFileOf, IsClosedPartOf}
 use Rattle.cd_engine.specs.Counting.{AreCountsOf, no_counts}
 use Rattle.cd_engine.specs.Endings.{StopsInTime, judging_captures, ended_by, IfStopped, IsStopped, EndsAs}
-use Rattle.cd_engine.specs.Events.{rules_of}
-use Rattle.cd_engine.specs.Refusals.{is_other_format, first_unserved}
 use Rattle.cd_engine.specs.declared.counts.Counts.{Counts}
 use Rattle.cd_engine.specs.declared.ended.Ended.{Ended}
 
@@ -30,7 +28,7 @@ used_bytes s taken = take s.max_input taken
 
 -- reading stops with the chunk that says how the capture ends
 abbrev pub StopsReading : Settings → SourceMeaning → SourceMeaning → List ℕ → Type 0
-StopsReading s src_old src_new taken = StopsInTime (judging_captures s) s.max_input src_old src_new taken
+StopsReading s src_old src_new taken = StopsInTime judging_captures s.max_input src_old src_new taken
 
 -- These bytes were taken, and the answer, the counts and the output are theirs.
 pub record CompactsTaken (s : Settings) (src_old src_new : SourceMeaning) (out_old out_new : SinkMeaning)
@@ -59,10 +57,7 @@ pub record WriteOutranks (old new : SinkMeaning) (result : Ended) : Type 0 where
   pub failed : old.failed ≡ false → new.failed ≡ true → IsStopped result
   pub refused : old.refused ≡ false → new.refused ≡ true → IsStopped result
 
--- The bytes are a capture that can be compacted: it is of the format that is read, ends between records or within one,
--- and each packet holds a datagram that is read.
+-- The bytes are a capture that can be compacted: it ends between records or within one.
 pub record IsServedCapture (s : Settings) (bytes : List ℕ) : Type 0 where
   pub few : length bytes ≤ s.max_input
-  pub format : is_other_format bytes ≡ false
-  pub end : IsWholeOrCut (pcap bytes).end
-  pub packets : first_unserved (rules_of s) (pcap bytes).packets ≡ None
+  pub end : IsWholeOrCut (capture bytes).end

@@ -1,6 +1,5 @@
 -- What is counted of a capture.
-use Rattle.std.specs.Prelude.{◌≡◌, ℕ, ◌+◌, ◌^◌, ◌-◌, min, Bool, true, false, nat_eq, List, [], ◌∷◌, length, map}
-use Rattle.std.specs.Prelude.{Option, Some, None}
+use Rattle.std.specs.Prelude.{◌≡◌, ℕ, ◌+◌, ◌^◌, ◌-◌, min, Bool, true, false, nat_eq, List, [], ◌∷◌, length, map, get_or, set}
 use Rattle.std.specs.List.{sum_by, count_by, range_with_len}
 use Rattle.std.specs.Option.{option_map_or}
 use Rattle.cd_hints.specs.Lists.{dropped}
@@ -10,19 +9,18 @@ use Rattle.cd_ident.specs.Events.{EventParts}
 use Rattle.cd_ident.specs.declared.event.Kind.{Kind}
 use Rattle.cd_ident.specs.declared.event.Kind.TheVariants as kind
 use Rattle.cd_ident.specs.declared.event_rules.EventRules.{EventRules}
-use Rattle.cd_packet.specs.Layers.{Found, datagram, skipped}
+use Rattle.cd_packet.specs.Layers.{Found, datagram, skipped, layer_of}
 use Rattle.cd_packet.specs.declared.capture.EndState.{EndState}
 use Rattle.cd_packet.specs.declared.capture.EndState.TheVariants.{Whole, Cut, Bad}
 use Rattle.cd_packet.specs.declared.datagram.Reason.{Reason}
 use Rattle.cd_packet.specs.declared.datagram.Reason.TheVariants as reason
 use Rattle.cd_packet.specs.declared.packet.Packet.{Packet}
 use Rattle.cd_pairing.specs.Records.{records}
-use Rattle.cd_pcap.specs.Pcap.{pcap}
+use Rattle.cd_capture.specs.Formats.{capture}
 use Rattle.cd_engine.specs.Compactions.{Compaction}
-use Rattle.cd_engine.specs.Events.{rules_of, event_of, read_layer}
+use Rattle.cd_engine.specs.Events.{rules_of, event_of}
 use Rattle.cd_engine.specs.Records.{records_at}
-use Rattle.cd_engine.specs.Refusals.{refusal_at_end, compacted_packets, compacted_events}
-use Rattle.cd_engine.specs.declared.refusal.Refusal.{Refusal}
+use Rattle.cd_engine.specs.Refusals.{compacted_events}
 use Rattle.cd_engine.specs.declared.counts.Counts.{Counts}
 use Rattle.cd_engine.specs.declared.counts.PacketCounts.{PacketCounts}
 use Rattle.cd_engine.specs.declared.counts.RecordCounts.{RecordCounts}
@@ -57,7 +55,7 @@ is_for_reason k (skipped why) = nat_eq (reason_index why) k
 
 -- whether a packet is skipped for the reason with this number
 abbrev pub is_skipped_for : EventRules → ℕ → Packet → Bool
-is_skipped_for rules k p = is_for_reason k (read_layer rules.port p)
+is_skipped_for rules k p = is_for_reason k (layer_of rules.port p)
 
 -- what is counted of these packets
 abbrev pub packet_counts : EventRules → List Packet → PacketCounts
@@ -86,16 +84,11 @@ record_counts types rs = record {
   dropped = sum_by (dropped types) rs;
 }
 
--- the bytes end within a record
+-- the bytes end within a header, a record or a block
 abbrev pub is_cut : EndState → Bool
 is_cut Whole = false
 is_cut Cut = true
 is_cut (Bad b) = false
-
--- whether a capture that is refused for this, if for anything, and has this end was cut off within a record
-abbrev pub is_cut_short : Option Refusal → EndState → Bool
-is_cut_short None end = is_cut end
-is_cut_short (Some refusal) end = false
 
 -- what is counted of packets and of records, in so many blocks
 abbrev pub counts_of : PacketCounts → RecordCounts → ℕ → Bool → Counts
@@ -113,13 +106,14 @@ counts_of p r blocks cut = record {
   cut = cut;
 }
 
--- these are the counts of the capture in these bytes, or of the capture before the place that is refused
+-- These are the counts of the capture in these bytes. Each packet is counted by the kind of its event, or by the reason
+-- for which it has none.
 pub record AreCountsOf (s : Settings) (bytes : List ℕ) (counts : Counts) : Type 0 where
   pub compaction : Compaction s (compacted_events (rules_of s) bytes)
-  pub same : counts ≡ counts_of (packet_counts (rules_of s) (compacted_packets (rules_of s) bytes))
+  pub same : counts ≡ counts_of (packet_counts (rules_of s) (capture bytes).packets)
       (record_counts s.params.rr_types
       (records_at (compacted_events (rules_of s) bytes) (records compaction.partners)))
-      (length compaction.runs) (is_cut_short (refusal_at_end (rules_of s) bytes) (pcap bytes).end)
+      (length compaction.runs) (is_cut (capture bytes).end)
 
 -- all counts are 0
 abbrev pub no_packet_counts : PacketCounts
@@ -173,3 +167,10 @@ packet_counts_with c kind.Malformed =
     record c { packets = held_in_64 (c.packets + 1); malformed = held_in_64 (c.malformed + 1) }
 packet_counts_with c kind.Discarded =
     record c { packets = held_in_64 (c.packets + 1); discarded = held_in_64 (c.discarded + 1) }
+
+-- the counts with one packet more, which is skipped for this reason
+abbrev pub packet_counts_without : PacketCounts → Reason → PacketCounts
+packet_counts_without c why = record c {
+  packets = held_in_64 (c.packets + 1);
+  skipped = set c.skipped (reason_index why) (held_in_64 (get_or c.skipped (reason_index why) 0 + 1));
+}

@@ -4,12 +4,11 @@ use Rattle.cd_drive.specs.declared.driving.Stop.{Stop}
 use Rattle.cd_drive.specs.declared.driving.Stop.TheVariants as stop
 use Rattle.cd_hints.specs.declared.settings.Settings.{Settings}
 use Rattle.cd_ports.specs.Reading.{SourceMeaning}
-use Rattle.cd_engine.specs.Events.{rules_of}
-use Rattle.cd_engine.specs.Refusals.{refusal, refusal_at_end}
+use Rattle.cd_capture.specs.Reading.{refusal_of}
+use Rattle.cd_engine.specs.Refusals.{refusal_at_end}
+use Rattle.cd_packet.specs.declared.capture.BadCapture.{BadCapture}
 use Rattle.cd_engine.specs.declared.ended.Ended.{Ended}
 use Rattle.cd_engine.specs.declared.ended.Ended.TheVariants as ended
-use Rattle.cd_engine.specs.declared.refusal.Refusal.{Refusal}
-use Rattle.cd_engine.specs.declared.refusal.Refusal.TheVariants.{BadCapture, NotYet}
 
 -- How bytes are judged: what they are refused for, and how it ends to be refused so.
 pub record Judging (R : Type 0) : Type 0 where
@@ -62,7 +61,6 @@ IfStopped (ended.BadCapture b) P Q = Q
 IfStopped (ended.BadFile b) P Q = Q
 IfStopped ended.ReadFault P Q = Q
 IfStopped ended.TooLong P Q = Q
-IfStopped (ended.NotYet at) P Q = Q
 
 -- a write failed, or memory ran out
 abbrev pub IsStopped : Ended → Type 0
@@ -72,23 +70,14 @@ IsStopped e = IfStopped e ⊤ ⊥
 abbrev pub EndsAs : Ended → Ended → Type 0
 EndsAs result e = (result ≡ e) ⊎ IsStopped result
 
--- how a compaction ends by a refusal
-abbrev pub ended_for : Refusal → Ended
-ended_for (BadCapture b) = ended.BadCapture b
-ended_for (NotYet at) = ended.NotYet at
-
--- how captures are judged under some settings
-abbrev pub judging_captures : Settings → Judging Refusal
-judging_captures s = record {
-  refused = refusal (rules_of s);
-  refused_at_end = refusal_at_end (rules_of s);
-  ended_for = ended_for;
+-- how captures are judged: by the refused place
+abbrev pub judging_captures : Judging BadCapture
+judging_captures = record {
+  refused = refusal_of;
+  refused_at_end = refusal_at_end;
+  ended_for = λ bad. ended.BadCapture bad;
 }
-
--- a compaction ends by a refusal where there is one, else so
-abbrev pub refused_or : Option Refusal → Ended → Ended
-refused_or o other = refused_as ended_for o other
 
 -- how a compaction ends that took these bytes
 abbrev pub ended_by : Settings → List ℕ → Bool → Ended
-ended_by s taken told_end = ended_in (judging_captures s) s.max_input taken told_end
+ended_by s taken told_end = ended_in judging_captures s.max_input taken told_end

@@ -9,10 +9,10 @@ use Rattle.cd_message.specs.declared.message.MsgWhy.{MsgWhy}
 use Rattle.cd_ident.specs.Events.{EventParts, event_parts, parts_of_reading}
 use Rattle.cd_ident.specs.Headers.{is_listed, opcode_of}
 use Rattle.cd_ident.specs.declared.event_rules.EventRules.{EventRules}
-use Rattle.cd_packet.specs.Layers.{Datagram, Found, datagram, skipped}
+use Rattle.cd_packet.specs.Layers.{Datagram, Found, datagram, skipped, layer_of}
 use Rattle.cd_packet.specs.declared.packet.Packet.{Packet}
 use Rattle.cd_pairing.specs.Settling.{AreHeavy}
-use Rattle.cd_engine.specs.Events.{event_found, event_of, events_of, read_layer}
+use Rattle.cd_engine.specs.Events.{event_found, event_of, events_of}
 use Rattle.cd_engine.specs.Records.{views_of}
 
 -- what a payload spells, or breaks
@@ -38,7 +38,7 @@ found_heavy rules (datagram d) =
 -- the event of a packet, where it has one
 pub packet_heavy : (rules : EventRules) (p : Packet) → IfSome (event_of rules p) (λ e. 256 ≤ e.weight)
 unfolding event_of
-packet_heavy rules p = found_heavy rules (read_layer rules.port p)
+packet_heavy rules p = found_heavy rules (layer_of rules.port p)
 
 -- no event of these is lighter than the least weight
 abbrev pub AreHeavyParts : List EventParts → Type 0

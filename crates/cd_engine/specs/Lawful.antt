@@ -19,7 +19,7 @@ use Rattle.cd_engine.specs.CutsGo.{closed_go_on, runs_go_on}
 use Rattle.cd_engine.specs.Events.{rules_of}
 use Rattle.cd_engine.specs.HeavyEvents.{AreHeavyParts, events_heavy}
 use Rattle.cd_engine.specs.RecordsGo.{settled_go_on, settled_first}
-use Rattle.cd_engine.specs.Refusals.{compacted_packets}
+use Rattle.cd_capture.specs.Formats.{capture}
 
 -- a file that is begun with more blocks
 begun_further : (params : Params) (blocks more : List Block) →
@@ -71,7 +71,7 @@ unfolding closed_part
 closed_part_grows s xs ys =
     let k = events_go_on (rules_of s) xs ys in
     let P : List EventParts → Type 0 = λ es. AreHeavyParts es in
-    let heavy = subst P k.1 (events_heavy (rules_of s) (compacted_packets (rules_of s) (xs ++ ys))) in
+    let heavy = subst P k.1 (events_heavy (rules_of s) (capture (xs ++ ys)).packets) in
     let g = closed_events_grow s (events_in s xs) k.0 heavy in
     (g.0, ap (closed_part_of_events s) k.1 ∙ g.1)
 
@@ -84,6 +84,6 @@ pub compacting_lawful : (s : Settings) → IsLawful (compacting s)
 compacting_lawful s = record {
   grows = closed_part_grows s;
   within = closed_part_within s;
-  stays = refusal_stays (rules_of s);
-  begins = nothing_unrefused (rules_of s);
+  stays = refusal_stays;
+  begins = nothing_unrefused;
 }

@@ -1,12 +1,13 @@
 -- What is known of the file of each capture, and of the weight of its events.
-use Rattle.std.specs.Prelude.{◌≡◌, ℕ, ◌*◌, ◌^◌, ◌<◌, ◌≤◌, List, ◌++◌, length}
-use Rattle.std.specs.List.{sum_by}
+use Rattle.std.specs.Prelude.{◌≡◌, ℕ, ◌+◌, ◌*◌, ◌^◌, ◌<◌, ◌≤◌, List, ◌++◌, length}
+use Rattle.std.specs.List.{sum, sum_by}
+use Rattle.cd_capture.specs.Formats.{capture}
 use Rattle.cd_drive.specs.Behaviors.{IsFront}
 use Rattle.cd_hints.specs.Validity.{IsValid}
 use Rattle.cd_hints.specs.declared.settings.Settings.{Settings}
 use Rattle.cd_ident.specs.Events.{EventParts}
 use Rattle.cd_ident.specs.declared.event_rules.EventRules.{EventRules}
-use Rattle.cd_pcap.specs.Pcap.{pcap}
+use Rattle.cd_message.specs.MessageLaws.{AreBytes}
 use Rattle.cd_engine.specs.Compactions.{IsFileOf, IsClosedPartOf}
 use Rattle.cd_engine.specs.Counting.{AreCountsOf}
 use Rattle.cd_engine.specs.Events.{events_of}
@@ -46,7 +47,7 @@ EachCaptureHasOneCounts = (s : Settings) (bytes : List ℕ) → IsValid s → Ha
 
 -- what the events of a capture weigh together
 abbrev pub weight_of_events : EventRules → List ℕ → ℕ
-weight_of_events rules bytes = sum_by (λ (e : EventParts). e.weight) (events_of rules (pcap bytes).packets)
+weight_of_events rules bytes = sum_by (λ (e : EventParts). e.weight) (events_of rules (capture bytes).packets)
 
 -- sixteen times what the events of a capture weigh is at most 829 times its length in bytes
 abbrev pub EventsAreLinear : Type 0
@@ -55,3 +56,13 @@ EventsAreLinear = (rules : EventRules) (bytes : List ℕ) → 16 * weight_of_eve
 -- the events of a capture of at most 2^48 bytes weigh less than 2^63 together
 abbrev pub EventsAreLight : Type 0
 EventsAreLight = (rules : EventRules) (bytes : List ℕ) → length bytes ≤ 2 ^ 48 → weight_of_events rules bytes < 2 ^ 63
+
+-- each packet of a capture of bytes is counted once: by the kind of its event, or by the reason why it has none
+abbrev pub EachPacketIsCounted : Type 0
+EachPacketIsCounted = (s : Settings) (bytes : List ℕ) (counts : Counts) → AreBytes bytes → AreCountsOf s bytes counts →
+    counts.packets ≡ counts.queries + counts.responses + counts.malformed + counts.discarded + sum counts.skipped
+
+-- the queries and responses of a capture are its items and its pairs together: each stands in one item
+abbrev pub MessagesAreItemsAndPairs : Type 0
+MessagesAreItemsAndPairs = (s : Settings) (bytes : List ℕ) (counts : Counts) → AreCountsOf s bytes counts →
+    counts.queries + counts.responses ≡ counts.items + counts.pairs

@@ -11,7 +11,6 @@ pub mod Behaving
 pub mod Filing
 pub mod Blocks
 pub mod Standing
-pub mod BeforePackets
 pub mod CapturesGo
 pub mod HeavyEvents
 pub mod RecordsGo

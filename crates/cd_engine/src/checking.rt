@@ -9,6 +9,7 @@ ghost use Rattle.cd_engine.specs.Endings.{ended_of, IsStopped, EndsAs};
 use crate::ended::Ended;
 use cd_drive::{Driven, NoSink, Stop, drive};
 use cd_file::BadFile;
+use cd_inspection::laws::counts_are_those_of_the_blocks;
 use cd_inspection::{BlockCounting, Inspection, Inspector, ReadCounts};
 use cd_ports::Source;
 use std::alloc::Global;
@@ -58,6 +59,7 @@ pub fn check<S: Source>(alloc: Global, max_input: u64, src: &mut S) -> (Ended, R
         ¬ Rose (S.means src.old).faults (S.means src.new).faults →
         (result.0 ≡ Ended.Done) ⊎ (result.0 ≡ Ended.NoMemory) }
 {
+    counts_are_those_of_the_blocks();
     let machine = match Inspection::<BlockCounting>::new(alloc) {
         Ok(machine) => machine,
         Err(_) => return (Ended::NoMemory, BlockCounting::no_counts()),

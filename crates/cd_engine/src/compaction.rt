@@ -5,25 +5,24 @@ ghost use Rattle.std.specs.Io.KnownBytes.{IsAtEnd};
 ghost use Rattle.cd_hints.specs.Validity.{IsValid};
 ghost use Rattle.cd_ports.specs.Counter.{Rose};
 ghost use Rattle.cd_engine.specs.Compacting.{Compacts, CompactsTold, WriteOutranks, IsServedCapture};
-ghost use Rattle.cd_engine.specs.Endings.{ended_for, ended_of, IsStopped, EndsAs};
+ghost use Rattle.cd_engine.specs.Endings.{judging_captures, ended_of, IsStopped, EndsAs};
 
 use crate::compactor::Compactor;
 use crate::counts::{Counts, no_counts};
 use crate::ended::Ended;
-use crate::refusal::Refusal;
 use cd_drive::{Driven, Stop, drive};
 use cd_hints::Settings;
+use cd_packet::BadCapture;
 use cd_ports::{Sink, SinkFault, Source};
 use std::alloc::Global;
 
 // How a compaction ends by what ended the input.
-fn ended_of(stop: Stop<Refusal>) -> Ended
-    ensures { result ≡ ended_of ended_for stop }
+fn ended_of(stop: Stop<BadCapture>) -> Ended
+    ensures { result ≡ ended_of judging_captures.ended_for stop }
 {
     match stop {
         Stop::Done => Ended::Done,
-        Stop::Refused(Refusal::BadCapture(bad)) => Ended::BadCapture(bad),
-        Stop::Refused(Refusal::NotYet { at }) => Ended::NotYet { at },
+        Stop::Refused(bad) => Ended::BadCapture(bad),
         Stop::TooLong => Ended::TooLong,
         Stop::ReadFault => Ended::ReadFault,
     }

@@ -1,55 +1,37 @@
 //! The machine that makes a C-DNS file of a capture.
 
-ghost use Rattle.std.specs.Prelude.{◌≡◌, ℕ, ◌+◌, ◌*◌, ◌≤◌, ◌^◌, false, [], ◌∷◌, ◌++◌, List, length, take, None, IfOk, OnOk};
+ghost use Rattle.std.specs.Prelude.{◌≡◌, ℕ, ◌+◌, ◌*◌, ◌<◌, ◌≤◌, ◌^◌, false, [], ◌∷◌, ◌++◌, List, length, take, None, IfOk, OnOk};
 ghost use Rattle.std.specs.Prelude.{OnErr};
 ghost use Rattle.cd_hints.specs.Validity.{IsValid};
 ghost use Rattle.cd_ident.specs.Events.{EventParts};
 ghost use Rattle.cd_ident.specs.Keys.{parts_of};
 ghost use Rattle.cd_ident.specs.declared.event_making.TheConstants.{GREATEST_WEIGHT};
 ghost use Rattle.cd_packet.specs.declared.packet.Packet.{Packet};
-ghost use Rattle.cd_pcap.specs.Reading.{StandsFor};
+ghost use Rattle.cd_capture.specs.Laws.{record_size};
+ghost use Rattle.cd_capture.specs.Reading.{StandsFor, refusal_in, refusal_of};
 ghost use Rattle.cd_engine.specs.Blocks.{BlocksStand};
-ghost use Rattle.cd_engine.specs.Counting.{is_cut_short, packet_counts_with};
+ghost use Rattle.cd_engine.specs.Counting.{is_cut, reason_index, packet_counts_with, packet_counts_without};
 ghost use Rattle.cd_engine.specs.Events.{rules_of};
-ghost use Rattle.cd_engine.specs.Refusals.{is_other_format, refusal_of_end};
-ghost use Rattle.cd_engine.specs.Standing.{CompactorStands, ReadsOn, HasTaken};
+ghost use Rattle.cd_engine.specs.Standing.{CompactorStands, HasCompacted, ReadsOn};
 
 use crate::blocks::Blocks;
 use crate::counts::{Counts, NO_PACKET_COUNTS, PacketCounts, counts_of};
-use crate::event_making::event_of;
-use crate::refusal::Refusal;
+use crate::event_making::{Held, held_in};
 use crate::settings_copy::copy_of;
+use cd_capture::CaptureReader;
 use cd_drive::{Finished, Machine};
 use cd_hints::Settings;
 use cd_ident::{Event, EventRules, Kind};
-use cd_packet::{EndState, FeedFault, has_magic};
-use cd_pcap::PcapReader;
+use cd_packet::{BadCapture, EndState, FeedFault, Packet, Reason};
 use std::alloc::{AllocError, Global};
 use std::marker::Model;
-
-// The first four bytes of the formats that are not read yet, as little-endian numbers: pcap of microseconds and of
-// nanoseconds in big-endian order, of nanoseconds in little-endian order, and pcapng.
-const BIG_MICRO: u32 = 0xd4c3b2a1;
-
-const BIG_NANO: u32 = 0x4d3cb2a1;
-
-const LITTLE_NANO: u32 = 0xa1b23c4d;
-
-const PCAPNG: u32 = 0x0a0d0d0a;
-
-// How many bytes choose the format of a capture.
-const MAGIC_SIZE: usize = 4;
 
 /// Makes the C-DNS file of a capture that comes in chunks. Where a call finds no memory it is spent.
 #[derive(Drop)]
 pub(crate) struct Compactor {
     alloc: Global,
     rules: EventRules,
-    reader: PcapReader,
-    // The first four bytes, or as many as there are.
-    first: Vec<u8>,
-    // What the bytes fed are refused for. From there on nothing is read.
-    refused: Option<Refusal>,
+    reader: CaptureReader,
     packets: PacketCounts,
     blocks: Blocks,
 }
@@ -67,8 +49,6 @@ impl Model for Compactor {
 
     ghost view = { λ c. record {
       reader = c.reader;
-      first = c.first.items;
-      refused = c.refused;
       packets = c.packets;
       blocks = c.blocks;
     } };
@@ -76,31 +56,9 @@ impl Model for Compactor {
     // What was pushed weighs no more than the bytes that were read allow. What is spent keeps nothing but its bounds.
     ghost invariant = { λ c. record {
       rules : c.blocks.spent ≡ false → c.rules ≡ rules_of c.blocks.filing.settings;
-      light : c.blocks.spent ≡ false → 16 * c.blocks.window.weight_sum ≤ 829 * c.reader.at;
+      light : c.blocks.spent ≡ false → 16 * c.blocks.window.weight_sum ≤ 829 * c.reader.passed;
       few : c.reader.fed_count ≤ 2 ^ 48;
     } };
-}
-
-// Whether these first bytes are those of a format that is not read yet.
-#[tactic(auto, unfolding(crate::specs::Refusals::is_other_format))]
-fn is_other_format(first: &[u8]) -> bool
-    ensures { result ≡ is_other_format first.now }
-{
-    has_magic(first, BIG_MICRO)
-        || has_magic(first, LITTLE_NANO)
-        || has_magic(first, BIG_NANO)
-        || has_magic(first, PCAPNG)
-}
-
-// What an end is refused for.
-fn refusal_of_end(end: EndState) -> Option<Refusal>
-    ensures { result ≡ refusal_of_end end }
-{
-    match end {
-        EndState::Whole => None,
-        EndState::Cut => None,
-        EndState::Bad(bad) => Some(Refusal::BadCapture(bad)),
-    }
 }
 
 // The counts with one packet more, which holds an event of this kind.
@@ -118,35 +76,65 @@ fn packet_counts_with(counts: PacketCounts, kind: Kind) -> PacketCounts
     counts
 }
 
-// Whether a capture that is refused for this, if for anything, and has this end was cut off within a record.
-fn is_cut_short(refused: Option<Refusal>, end: EndState) -> bool
-    ensures { result ≡ is_cut_short refused end }
+// The counts with one packet more, which is skipped for this reason.
+fn packet_counts_without(counts: PacketCounts, reason: Reason) -> PacketCounts
+    ensures { result ≡ packet_counts_without counts reason }
 {
-    refused.is_none() && matches!(end, EndState::Cut)
+    let mut counts = counts;
+    counts.packets = counts.packets.saturating_add(1);
+    let at = reason_index(reason);
+    counts.skipped[at] = counts.skipped[at].saturating_add(1);
+    counts
 }
 
-// Keeps the first bytes of a capture.
-fn keep_first(first: &mut Vec<u8>, chunk: &[u8]) -> Result<(), AllocError>
-    ensures { (fed : List ℕ) → first.old.items ≡ take 4 fed →
-        OnOk result (first.new.items ≡ take 4 (fed ++ chunk.now)) }
+// The number of a reason, in the order of the report.
+fn reason_index(reason: Reason) -> usize
+    ensures value { result ≡ reason_index reason }
+    ensures few { result < 9 }
 {
-    let missing = MAGIC_SIZE.saturating_sub(first.len());
-    let count = missing.min(chunk.len());
-    first.extend_from_slice(&chunk[..count])
+    match reason {
+        Reason::Link => 0,
+        Reason::Length => 1,
+        Reason::NotIp => 2,
+        Reason::Fragment => 3,
+        Reason::NotUdp => 4,
+        Reason::Port => 5,
+        Reason::Cut => 6,
+        Reason::Time => 7,
+        Reason::NoTime => 8,
+    }
 }
 
-// Feeds a chunk to a reader. A refused place in it is told by the reader's end, once the packets before it are taken.
-fn feed_reader(reader: &mut PcapReader, chunk: &[u8]) -> Result<(), AllocError>
+// Whether bytes that end so end within a header, a record or a block.
+fn is_cut(end: EndState) -> bool
+    ensures { result ≡ is_cut end }
+{
+    matches!(end, EndState::Cut)
+}
+
+// The refused place of an end.
+fn refusal_in(end: EndState) -> Option<BadCapture>
+    ensures { result ≡ refusal_in end }
+{
+    match end {
+        EndState::Whole => None,
+        EndState::Cut => None,
+        EndState::Bad(bad) => Some(bad),
+    }
+}
+
+// Feeds a chunk, and gives the refused place of all bytes fed, where they have one.
+fn feed_reader(reader: &mut CaptureReader, chunk: &[u8]) -> Result<Option<BadCapture>, AllocError>
     requires { reader.old.fed_count + length chunk.now ≤ 2 ^ 48 }
-    ensures history { OnOk result ((fed : List ℕ) (given : List Packet) → StandsFor reader.old fed given →
-        StandsFor reader.new (fed ++ chunk.now) given) }
+    ensures history { IfOk result (λ bad. (fed : List ℕ) (given : List Packet) → StandsFor reader.old fed given →
+        StandsFor reader.new (fed ++ chunk.now) given × (refusal_of (fed ++ chunk.now) ≡ bad)) }
     ensures count { OnOk result (reader.new.fed_count ≡ reader.old.fed_count + length chunk.now) }
-    ensures place { reader.old.at ≤ reader.new.at }
+    ensures place { reader.old.passed ≤ reader.new.passed }
     ensures unchanged { OnErr result (reader.new ≡ reader.old) }
 {
     match reader.feed(chunk) {
-        Ok(()) => Ok(()),
-        Err(FeedFault::Bad(_)) => Ok(()),
+        Ok(()) => Ok(None),
+        Err(FeedFault::Bad(bad)) => Ok(Some(bad)),
         Err(FeedFault::NoMemory) => Err(AllocError),
     }
 }
@@ -166,9 +154,7 @@ impl Compactor {
                 port: settings.port,
                 opcodes: settings.params.opcodes,
             },
-            reader: PcapReader::new(alloc),
-            first: Vec::new(alloc),
-            refused: None,
+            reader: CaptureReader::new(alloc),
             packets: NO_PACKET_COUNTS,
             blocks,
         })
@@ -178,8 +164,8 @@ impl Compactor {
     fn take_event(&mut self, event: Event) -> Result<(), AllocError>
         requires fresh { self.old.blocks.spent ≡ false }
         requires weight { event.weight ≤ GREATEST_WEIGHT }
-        requires light { 16 * (self.old.blocks.window.weight_sum + event.weight) ≤ 829 * self.old.reader.at }
-        requires few { self.old.reader.at ≤ 2 ^ 48 }
+        requires light { 16 * (self.old.blocks.window.weight_sum + event.weight) ≤ 829 * self.old.reader.passed }
+        requires few { self.old.reader.passed ≤ 2 ^ 48 }
         ensures history { OnOk result ((events : List EventParts) (cleared : List ℕ) →
             BlocksStand self.old.blocks events cleared →
             BlocksStand self.new.blocks (events ++ parts_of event ∷ []) cleared) }
@@ -187,59 +173,70 @@ impl Compactor {
         ensures fresh { OnOk result (self.new.blocks.spent ≡ false) }
         ensures settings { OnOk result (self.new.blocks.filing.settings ≡ self.old.blocks.filing.settings) }
         ensures reader { OnOk result (self.new.reader ≡ self.old.reader) }
-        ensures first { OnOk result (self.new.first ≡ self.old.first) }
     {
         self.packets = packet_counts_with(self.packets, event.kind);
         self.blocks.push(event)
     }
 
-    // Takes the packets that are there whole, up to one that cannot be compacted, and answers what the bytes are refused
-    // for.
-    fn take_packets(&mut self) -> Result<Option<Refusal>, AllocError>
+    // Takes the next packet, which takes no more of the bytes than were passed.
+    fn take_packet(&mut self, packet: &Packet) -> Result<(), AllocError>
         requires fresh { self.old.blocks.spent ≡ false }
-        ensures history { IfOk result (λ refused. (fed cleared : List ℕ) →
-            ReadsOn (rules_of self.old.blocks.filing.settings) self.old fed cleared →
-            HasTaken (rules_of self.old.blocks.filing.settings) self.new fed cleared refused) }
-        ensures settings { OnOk result (self.new.blocks.filing.settings ≡ self.old.blocks.filing.settings) }
+        requires light { 16 * self.old.blocks.window.weight_sum + 829 * record_size packet.now
+            ≤ 829 * self.old.reader.passed }
+        requires few { self.old.reader.passed ≤ 2 ^ 48 }
+        ensures compacts { OnOk result ((given : List Packet) (cleared : List ℕ) →
+            HasCompacted (rules_of self.old.blocks.filing.settings) self.old given cleared →
+            HasCompacted (rules_of self.old.blocks.filing.settings) self.new (given ++ packet.now ∷ []) cleared) }
         ensures fresh { OnOk result (self.new.blocks.spent ≡ false) }
-        ensures count { OnOk result (self.new.reader.fed_count ≡ self.old.reader.fed_count) }
-        ensures first { OnOk result (self.new.first ≡ self.old.first) }
+        ensures settings { OnOk result (self.new.blocks.filing.settings ≡ self.old.blocks.filing.settings) }
+        ensures reader { OnOk result (self.new.reader ≡ self.old.reader) }
     {
-        'packets: loop {
-            let next = self.reader.next()?;
-            let packet = match next {
-                None => return Ok(refusal_of_end(self.reader.end())),
-                Some(packet) => packet,
-            };
-            let found = event_of(self.alloc, &packet, &self.rules)?;
-            match found {
-                None => return Ok(Some(Refusal::NotYet { at: packet.at })),
-                Some(event) => self.take_event(event)?,
+        let held = held_in(self.alloc, packet, &self.rules)?;
+        match held {
+            Held::Event(event) => {
+                self.take_event(event)?;
+                Ok(())
+            }
+            Held::Skipped(reason) => {
+                self.packets = packet_counts_without(self.packets, reason);
+                Ok(())
             }
         }
     }
 
-    // Takes a chunk of bytes that are not refused so far.
-    fn take_chunk(&mut self, chunk: &[u8]) -> Result<(), AllocError>
+    // Takes all packets that are there whole.
+    fn take_packets(&mut self) -> Result<(), AllocError>
         requires fresh { self.old.blocks.spent ≡ false }
-        requires going { self.old.refused ≡ None }
+        ensures history { OnOk result ((fed cleared : List ℕ) →
+            ReadsOn (rules_of self.old.blocks.filing.settings) self.old fed cleared →
+            CompactorStands self.new fed cleared) }
+        ensures settings { OnOk result (self.new.blocks.filing.settings ≡ self.old.blocks.filing.settings) }
+        ensures fresh { OnOk result (self.new.blocks.spent ≡ false) }
+        ensures count { OnOk result (self.new.reader.fed_count ≡ self.old.reader.fed_count) }
+    {
+        'packets: loop {
+            let next = self.reader.next()?;
+            match next {
+                None => return Ok(()),
+                Some(packet) => self.take_packet(&packet)?,
+            }
+        }
+    }
+
+    // Takes a chunk, and answers the refused place of the bytes fed.
+    fn take_chunk(&mut self, chunk: &[u8]) -> Result<Option<BadCapture>, AllocError>
+        requires fresh { self.old.blocks.spent ≡ false }
         requires space { self.old.reader.fed_count + length chunk.now ≤ 2 ^ 48 }
         ensures history { OnOk result ((fed cleared : List ℕ) → CompactorStands self.old fed cleared →
             CompactorStands self.new (fed ++ chunk.now) cleared) }
+        ensures refusal { IfOk result (λ bad. (fed cleared : List ℕ) → CompactorStands self.old fed cleared →
+            bad ≡ refusal_of (fed ++ chunk.now)) }
         ensures settings { OnOk result (self.new.blocks.filing.settings ≡ self.old.blocks.filing.settings) }
         ensures count { OnOk result (self.new.reader.fed_count ≡ self.old.reader.fed_count + length chunk.now) }
     {
-        keep_first(&mut self.first, chunk)?;
-        feed_reader(&mut self.reader, chunk)?;
-        if self.first.len() < MAGIC_SIZE {
-            return Ok(());
-        }
-        if is_other_format(&self.first) {
-            self.refused = Some(Refusal::NotYet { at: 0 });
-            return Ok(());
-        }
-        self.refused = self.take_packets()?;
-        Ok(())
+        let bad = feed_reader(&mut self.reader, chunk)?;
+        self.take_packets()?;
+        Ok(bad)
     }
 }
 
@@ -249,7 +246,7 @@ impl Machine for Compactor {
     ghost use Rattle.cd_engine.specs.Lawful.{compacting_lawful};
     ghost use Rattle.cd_engine.specs.Standing.{CompactorStands};
 
-    type Refusal = Refusal;
+    type Refusal = BadCapture;
 
     type Counts = Counts;
 
@@ -259,15 +256,12 @@ impl Machine for Compactor {
 
     ghost space = { λ c. 2 ^ 48 - c.reader.fed_count };
 
-    fn feed(&mut self, chunk: &[u8]) -> Result<Option<Refusal>, AllocError> {
+    fn feed(&mut self, chunk: &[u8]) -> Result<Option<BadCapture>, AllocError> {
         if self.blocks.is_spent() {
             return Err(AllocError);
         }
-        if self.refused.is_some() {
-            return Ok(self.refused);
-        }
         match self.take_chunk(chunk) {
-            Ok(()) => Ok(self.refused),
+            Ok(bad) => Ok(bad),
             Err(AllocError) => {
                 self.blocks.spend();
                 Err(AllocError)
@@ -275,8 +269,8 @@ impl Machine for Compactor {
         }
     }
 
-    fn at_end(&self) -> Option<Refusal> {
-        refusal_of_end(self.reader.end())
+    fn at_end(&self) -> Option<BadCapture> {
+        refusal_in(self.reader.end())
     }
 
     fn output(&self) -> &[u8] {
@@ -297,7 +291,7 @@ impl Machine for Compactor {
         if self.blocks.is_spent() {
             return Err(AllocError);
         }
-        let cut = is_cut_short(self.refused, self.reader.end());
+        let cut = is_cut(self.reader.end());
         let filed = self.blocks.finish()?;
         Ok(Finished {
             output: filed.output,

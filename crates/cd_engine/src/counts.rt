@@ -27,7 +27,7 @@ pub struct Counts {
     pub items: u64,
     /// Items that are a query with its response.
     pub pairs: u64,
-    /// Whether the bytes end within a record of the capture.
+    /// Whether the bytes end within a header, a record or a block of the capture.
     pub cut: bool,
 }
 

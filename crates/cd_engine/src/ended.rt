@@ -21,7 +21,4 @@ pub enum Ended {
     NoMemory,
     /// The input has more than `max_input` bytes; the file or the counts are those of the first `max_input`.
     TooLong,
-    /// A packet, or the whole capture at 0, cannot be compacted by this version; the file is that of the bytes before
-    /// it. `at` is its offset: bytes from the start of the capture.
-    NotYet { at: u64 },
 }

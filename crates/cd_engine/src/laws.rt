@@ -1,7 +1,7 @@
 //! Laws of the file of a capture, and of the weight of its events: contracts of functions that do nothing.
 
 ghost use Rattle.cd_engine.specs.Laws.{EachCaptureHasOneFile, EachCaptureHasOneClosedPart, EachCaptureHasOneCounts};
-ghost use Rattle.cd_engine.specs.Laws.{EventsAreLinear, EventsAreLight};
+ghost use Rattle.cd_engine.specs.Laws.{EventsAreLinear, EventsAreLight, EachPacketIsCounted, MessagesAreItemsAndPairs};
 ghost use Rattle.cd_engine.specs.ReadBack.{FilesAreReadBack, FilesAreKept, ClosedPartsAreReadBack};
 
 /// A law: each capture has exactly one file, under each valid settings. It does nothing.
@@ -29,6 +29,18 @@ pub fn weights_of_events_are_linear()
 /// A law: the events of a capture of at most 2^48 bytes weigh less than 2^63 together. It does nothing.
 pub fn events_are_light()
     ensures { EventsAreLight }
+{}
+
+/// A law: each packet of a capture of bytes is counted once, by the kind of its event or by the reason why it has none.
+/// It does nothing.
+pub fn each_packet_is_counted()
+    ensures { EachPacketIsCounted }
+{}
+
+/// A law: the queries and responses of a capture are its items and its pairs together, as each stands in one item. It does
+/// nothing.
+pub fn messages_are_items_and_pairs()
+    ensures { MessagesAreItemsAndPairs }
 {}
 
 /// A law: under valid settings the file of a capture of bytes is read back. It ends whole, with the block parameters of

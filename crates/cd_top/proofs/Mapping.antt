@@ -18,7 +18,6 @@ end_of status.ReadFault = ended.ReadFault
 end_of status.WriteFault = ended.WriteFault
 end_of status.NoMemory = ended.NoMemory
 end_of status.TooLong = ended.TooLong
-end_of (status.NotYet at) = ended.NotYet at
 
 end_back : (e : Ended) → end_of (status_of e) ≡ e
 end_back ended.Done = refl
@@ -28,7 +27,6 @@ end_back ended.ReadFault = refl
 end_back ended.WriteFault = refl
 end_back ended.NoMemory = refl
 end_back ended.TooLong = refl
-end_back (ended.NotYet at) = refl
 
 -- two ends with one status are one
 pub same_end : (e f : Ended) → status_of e ≡ status_of f → e ≡ f
@@ -47,7 +45,6 @@ no_usage ended.ReadFault same = absurd cc
 no_usage ended.WriteFault same = absurd cc
 no_usage ended.NoMemory same = absurd cc
 no_usage ended.TooLong same = absurd cc
-no_usage (ended.NotYet at) same = absurd cc
 
 -- an end of which P holds
 pub has_end : (P : Ended → Type 0) (r : Status) (e : Ended) → r ≡ status_of e → P e → IsStatusOf P r
@@ -95,7 +92,6 @@ stopped_is r h = by h.end h.is h.holds
     by (ended.BadFile b) is halt = absurd halt
     by ended.ReadFault is halt = absurd halt
     by ended.TooLong is halt = absurd halt
-    by (ended.NotYet at) is halt = absurd halt
 
 -- an end is a stop or not
 pub stopped_or_going : (e : Ended) → endings.IsStopped e ⊎ (endings.IsStopped e → ⊥)
@@ -106,7 +102,6 @@ stopped_or_going (ended.BadCapture b) = inr (λ halt. halt)
 stopped_or_going (ended.BadFile b) = inr (λ halt. halt)
 stopped_or_going ended.ReadFault = inr (λ halt. halt)
 stopped_or_going ended.TooLong = inr (λ halt. halt)
-stopped_or_going (ended.NotYet at) = inr (λ halt. halt)
 
 -- what holds at a stop
 pub at_stop : (e : Ended) (P Q : Type 0) → endings.IsStopped e → IfStopped e P Q → P
@@ -117,7 +112,6 @@ at_stop (ended.BadCapture b) P Q halt h = absurd halt
 at_stop (ended.BadFile b) P Q halt h = absurd halt
 at_stop ended.ReadFault P Q halt h = absurd halt
 at_stop ended.TooLong P Q halt h = absurd halt
-at_stop (ended.NotYet at) P Q halt h = absurd halt
 
 -- what holds at another end
 pub while_going : (e : Ended) (P Q : Type 0) → (endings.IsStopped e → ⊥) → IfStopped e P Q → Q
@@ -128,7 +122,6 @@ while_going (ended.BadCapture b) P Q going h = h
 while_going (ended.BadFile b) P Q going h = h
 while_going ended.ReadFault P Q going h = h
 while_going ended.TooLong P Q going h = h
-while_going (ended.NotYet at) P Q going h = h
 
 pub stopped_so : (e : Ended) (P Q : Type 0) → endings.IsStopped e → P → IfStopped e P Q
 stopped_so ended.WriteFault P Q halt p = p
@@ -138,7 +131,6 @@ stopped_so (ended.BadCapture b) P Q halt p = absurd halt
 stopped_so (ended.BadFile b) P Q halt p = absurd halt
 stopped_so ended.ReadFault P Q halt p = absurd halt
 stopped_so ended.TooLong P Q halt p = absurd halt
-stopped_so (ended.NotYet at) P Q halt p = absurd halt
 
 pub going_so : (e : Ended) (P Q : Type 0) → (endings.IsStopped e → ⊥) → Q → IfStopped e P Q
 going_so ended.WriteFault P Q going q = absurd (going tt)
@@ -148,4 +140,3 @@ going_so (ended.BadCapture b) P Q going q = q
 going_so (ended.BadFile b) P Q going q = q
 going_so ended.ReadFault P Q going q = q
 going_so ended.TooLong P Q going q = q
-going_so (ended.NotYet at) P Q going q = q

@@ -5,16 +5,14 @@ use Rattle.std.proofs.lemmas.Bool.{cases_lt, lt-ltb, le-ltb, le-leb, lt-leb, ltb
 use Rattle.std.proofs.lemmas.List.{take_all}
 use Rattle.cd_engine.specs.Checking.{judging_files}
 use Rattle.cd_engine.specs.Endings as endings
-use Rattle.cd_engine.specs.Endings.{refused_as, ended_for, judging_captures}
-use Rattle.cd_engine.specs.Events.{rules_of}
-use Rattle.cd_engine.specs.Refusals.{refusal, refusal_at_end}
+use Rattle.cd_engine.specs.Endings.{refused_as, judging_captures}
 use Rattle.cd_engine.specs.declared.ended.Ended.{Ended}
 use Rattle.cd_engine.specs.declared.ended.Ended.TheVariants as ended
-use Rattle.cd_engine.specs.declared.refusal.Refusal.{Refusal}
-use Rattle.cd_engine.specs.declared.refusal.Refusal.TheVariants as refused
+use Rattle.cd_engine.proofs.Refusing.{refusal_told}
 use Rattle.cd_file.specs.KeptFile.{kept_file}
 use Rattle.cd_file.specs.ReadFile.{FileEnd, Whole, Open, Refused, number_after, refusal_at, told}
 use Rattle.cd_file.specs.declared.refusal.BadFile.{BadFile}
+use Rattle.cd_packet.specs.declared.capture.BadCapture.{BadCapture}
 use Rattle.cd_words.specs.declared.command.Command.{Command}
 use Rattle.cd_words.specs.declared.command.Command.TheVariants.{Compact, Check}
 use Rattle.cd_top.specs.Run.{max_input_of, refused_for, refused_at_end_for, used_bytes, refusal_used, IsTooLong, ended_by}
@@ -34,14 +32,16 @@ unrefused more told_end = cond more ended.TooLong (cond told_end ended.Done ende
 -- what bytes are refused for at their end they may be refused for before
 judged_once : (c : Command) (bytes : List ℕ) (x : Ended) →
     refused_or (refused_for c bytes) (refused_or (refused_at_end_for c bytes) x) ≡ refused_or (refused_at_end_for c bytes) x
-unfolding refusal
-judged_once (Compact s) bytes x = by (nat_lt (length bytes) 4) (refusal_at_end (rules_of s) bytes)
+judged_once (Compact s) bytes x =
+    ap (λ o. refused_or (option_map judging_captures.ended_for o) (refused_or (refused_at_end_for (Compact s) bytes) x)) (refusal_told bytes)
+    ∙ by (nat_lt (length bytes) 4) (judging_captures.refused_at_end bytes)
   where
-    by : (few : Bool) (o : Option Refusal) →
-        refused_or (option_map ended_for (cond few None o)) (refused_or (option_map ended_for o) x) ≡ refused_or (option_map ended_for o) x
+    by : (few : Bool) (o : Option BadCapture) →
+        refused_or (option_map judging_captures.ended_for (cond few None o)) (refused_or (option_map judging_captures.ended_for o) x)
+        ≡ refused_or (option_map judging_captures.ended_for o) x
     by true o = refl
     by false None = refl
-    by false (Some r) = refl
+    by false (Some bad) = refl
 judged_once (Check max) bytes x =
     by (number_after (kept_file bytes).params (length (kept_file bytes).blocks)) (length bytes) (kept_file bytes).end
   where
@@ -69,12 +69,11 @@ ended_used c taken told_end =
 
 -- no refusal is told as too many bytes
 refused_short : (c : Command) (bytes : List ℕ) → refused_for c bytes ≡ Some ended.TooLong → ⊥
-refused_short (Compact s) bytes is = by (refusal (rules_of s) bytes) is
+refused_short (Compact s) bytes is = by (judging_captures.refused bytes) is
   where
-    by : (o : Option Refusal) → option_map ended_for o ≡ Some ended.TooLong → ⊥
+    by : (o : Option BadCapture) → option_map judging_captures.ended_for o ≡ Some ended.TooLong → ⊥
     by None is = cc
-    by (Some (refused.BadCapture b)) is = cc
-    by (Some (refused.NotYet at)) is = cc
+    by (Some b) is = cc
 refused_short (Check max) bytes is = by (judging_files.refused bytes) is
   where
     by : (o : Option BadFile) → option_map judging_files.ended_for o ≡ Some ended.TooLong → ⊥
@@ -82,12 +81,11 @@ refused_short (Check max) bytes is = by (judging_files.refused bytes) is
     by (Some b) is = cc
 
 refused_at_end_short : (c : Command) (bytes : List ℕ) → refused_at_end_for c bytes ≡ Some ended.TooLong → ⊥
-refused_at_end_short (Compact s) bytes is = by (refusal_at_end (rules_of s) bytes) is
+refused_at_end_short (Compact s) bytes is = by (judging_captures.refused_at_end bytes) is
   where
-    by : (o : Option Refusal) → option_map ended_for o ≡ Some ended.TooLong → ⊥
+    by : (o : Option BadCapture) → option_map judging_captures.ended_for o ≡ Some ended.TooLong → ⊥
     by None is = cc
-    by (Some (refused.BadCapture b)) is = cc
-    by (Some (refused.NotYet at)) is = cc
+    by (Some b) is = cc
 refused_at_end_short (Check max) bytes is = by (judging_files.refused_at_end bytes) is
   where
     by : (o : Option BadFile) → option_map judging_files.ended_for o ≡ Some ended.TooLong → ⊥
@@ -106,9 +104,6 @@ capture_refusal b = record { short = λ is. cc; undone = λ is. cc; unfailed = �
 
 pub file_refusal : (b : _) → IsRefusal (ended.BadFile b)
 file_refusal b = record { short = λ is. cc; undone = λ is. cc; unfailed = λ is. cc; going = λ halt. halt }
-
-pub not_yet_refusal : (at : ℕ) → IsRefusal (ended.NotYet at)
-not_yet_refusal at = record { short = λ is. cc; undone = λ is. cc; unfailed = λ is. cc; going = λ halt. halt }
 
 refused_end : (o : Option Ended) (more t : Bool) (e : Ended) → IsRefusal e → refused_or o (unrefused more t) ≡ e → o ≡ Some e
 refused_end None true t e kind is = absurd (kind.short (sym is))

@@ -1,5 +1,5 @@
 -- What a report gets that is written, or is not.
-use Rattle.std.proofs.Common.{◌≡◌, ℕ, List, refl, sym, inl, inr, subst}
+use Rattle.std.proofs.Common.{◌≡◌, ℕ, List, ◌++◌, refl, ap, sym, ◌∙◌, inl, inr, subst, append_assoc}
 use Rattle.std.specs.Io.KnownBytes.{Appends}
 use Rattle.cd_ports.specs.Writing.{SinkMeaning, AppendsPrefix}
 use Rattle.cd_top.specs.Reports.{TellsReport}
@@ -37,3 +37,7 @@ unsaid a s text = told_front a a status.NoMemory s text (prefix_none a.contents 
 -- a run that is stopped is outranked by nothing
 pub outranks_stopped : (a b : SinkMeaning) (r : Status) → IsStopped r → WriteOutranks a b r
 outranks_stopped a b r halt = record { failed = λ before now. halt; refused = λ before now. halt }
+
+-- one piece more after some text
+pub further : (before now next pieces piece : List ℕ) → now ≡ before ++ pieces → next ≡ now ++ piece → next ≡ before ++ (pieces ++ piece)
+further before now next pieces piece first second = second ∙ ap (λ t. t ++ piece) first ∙ append_assoc before pieces piece

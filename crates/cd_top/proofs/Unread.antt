@@ -5,7 +5,8 @@ use Rattle.std.specs.Prelude.{option_map}
 use Rattle.std.proofs.lemmas.List.{append-nil}
 use Rattle.cd_drive.specs.Driving.{IsTaken}
 use Rattle.cd_engine.specs.Checking.{judging_files}
-use Rattle.cd_engine.specs.Refusals.{refusal}
+use Rattle.cd_engine.specs.CapturesGo as captures
+use Rattle.cd_engine.specs.Endings.{judging_captures}
 use Rattle.cd_engine.specs.declared.ended.Ended.TheVariants as ended
 use Rattle.cd_inspection.specs.Growing.{nothing_unrefused}
 use Rattle.cd_ports.specs.Reading.{SourceMeaning}
@@ -33,8 +34,7 @@ consumed_is_taken old new bytes taken told consumed =
 
 -- no byte is refused
 none_refused : (c : Command) → refused_for c [] ≡ None
-unfolding refusal
-none_refused (Compact s) = refl
+none_refused (Compact s) = ap (λ o. option_map judging_captures.ended_for o) captures.nothing_unrefused
 none_refused (Check max) = ap (λ o. option_map judging_files.ended_for o) nothing_unrefused
 
 -- to take nothing is to stop in time

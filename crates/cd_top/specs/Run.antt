@@ -2,7 +2,7 @@
 use Rattle.std.specs.Prelude.{◌≡◌, ℕ, ◌<◌, ◌&&◌, nat_le, Bool, List, length, take, Option, None, option_map, if◌then◌else◌}
 use Rattle.cd_drive.specs.Driving.{IsTaken}
 use Rattle.cd_engine.specs.Checking.{judging_files}
-use Rattle.cd_engine.specs.Endings.{Judging, StopsInTime, ended_in, ended_for, judging_captures}
+use Rattle.cd_engine.specs.Endings.{Judging, StopsInTime, ended_in, judging_captures}
 use Rattle.cd_engine.specs.declared.ended.Ended.{Ended}
 use Rattle.cd_engine.specs.declared.ended.Ended.TheVariants as ended
 use Rattle.cd_ports.specs.Counter.{Rose}
@@ -18,12 +18,13 @@ max_input_of (Check max_input) = max_input
 
 -- what bytes are refused for by a command, whatever follows them, as how it ends: as a capture, or as a C-DNS file
 abbrev pub refused_for : Command → List ℕ → Option Ended
-refused_for (Compact settings) bytes = option_map ended_for ((judging_captures settings).refused bytes)
+refused_for (Compact settings) bytes = option_map judging_captures.ended_for (judging_captures.refused bytes)
 refused_for (Check max_input) bytes = option_map judging_files.ended_for (judging_files.refused bytes)
 
 -- what they are refused for where nothing follows them
 abbrev pub refused_at_end_for : Command → List ℕ → Option Ended
-refused_at_end_for (Compact settings) bytes = option_map ended_for ((judging_captures settings).refused_at_end bytes)
+refused_at_end_for (Compact settings) bytes =
+    option_map judging_captures.ended_for (judging_captures.refused_at_end bytes)
 refused_at_end_for (Check max_input) bytes = option_map judging_files.ended_for (judging_files.refused_at_end bytes)
 
 -- how a command judges bytes

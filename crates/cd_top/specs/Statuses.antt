@@ -18,7 +18,6 @@ status_of ended.ReadFault = status.ReadFault
 status_of ended.WriteFault = status.WriteFault
 status_of ended.NoMemory = status.NoMemory
 status_of ended.TooLong = status.TooLong
-status_of (ended.NotYet at) = status.NotYet at
 
 -- the status is that of an end of which P holds
 pub record IsStatusOf (P : Ended → Type 0) (result : Status) : Type 0 where
@@ -62,4 +61,3 @@ code_of status.ReadFault = 4
 code_of status.WriteFault = 5
 code_of status.NoMemory = 6
 code_of status.TooLong = 7
-code_of (status.NotYet at) = 8

@@ -6,6 +6,8 @@ ghost use Rattle.cd_drive.specs.Driving.{IsTaken, AppendsMore};
 ghost use Rattle.cd_engine.specs.Checking.{IsWholeFile, AreReadCountsOf};
 ghost use Rattle.cd_engine.specs.Compacting.{IsServedCapture};
 ghost use Rattle.cd_engine.specs.Compactions.{IsFileOf, IsClosedPartOf};
+ghost use Rattle.cd_engine.specs.Counting.{AreCountsOf};
+ghost use Rattle.cd_engine.specs.declared.counts.Counts.{Counts};
 ghost use Rattle.cd_engine.specs.declared.ended.Ended.TheVariants as ended;
 ghost use Rattle.cd_file.specs.declared.refusal.BadFile.{BadFile};
 ghost use Rattle.cd_hints.specs.declared.settings.Settings.{Settings};
@@ -14,14 +16,13 @@ ghost use Rattle.cd_packet.specs.declared.capture.BadCapture.{BadCapture};
 ghost use Rattle.cd_ports.specs.Counter.{Rose};
 ghost use Rattle.cd_words.specs.Commands.{SaysCommand, IsLine, BreaksRuleAt};
 ghost use Rattle.cd_top.specs.Refusing.{RefusesWords};
-ghost use Rattle.cd_top.specs.Reports.{ReportsCheck};
+ghost use Rattle.cd_top.specs.Reports.{ReportsCheck, ReportsCompact};
 ghost use Rattle.cd_top.specs.Run.{RunsOver, IsUnended, IsTooLong, StopsReading, max_input_of, used_bytes};
 ghost use Rattle.cd_top.specs.Run.{refusal_used, ended_by};
 ghost use Rattle.cd_top.specs.Statuses.{status_of, EndsAs, ComesExactly, Writes, WriteOutranks, ReadFaultIsTold};
 
 use crate::Status;
-use crate::report::{refuse, tell_check};
-use crate::status::status_of;
+use crate::report::{refuse, tell_check, tell_compact};
 use cd_engine::{check, compact_plain};
 use cd_name::Blob;
 use cd_ports::{Sink, Source};
@@ -29,9 +30,9 @@ use cd_words::laws::{words_are_a_line_or_break_a_rule, words_say_at_most_one_com
 use cd_words::{Command, WordsFault, read_words};
 use std::alloc::Global;
 
-/// All that the program does. By `compact` it compacts the capture that it reads from `src`, and writes the C-DNS file
-/// to `out` (RFC 8618). By `check` it reads a C-DNS file from `src`, and writes to `report` what it counted in it and
-/// how that ended.
+/// All that the program does. By `compact` it compacts the capture that it reads from `src`, a pcap or a pcapng, and
+/// writes the C-DNS file to `out` (RFC 8618). By `check` it reads a C-DNS file from `src`. Each writes to `report` what it
+/// counted and how that ended.
 ///
 /// The words are the command line without the program's name: a command and its options, by the language of
 /// `docs/FORMATS.md`. Words that are no command line are refused with `Usage`, and `report` gets `usage PLACE`, where
@@ -53,8 +54,8 @@ pub fn run_plain<S: Source, K: Sink, E: Sink>(
         RefusesWords place (S.means src.old) (S.means src.new) (K.means out.old) (K.means out.new)
         (E.means report.old) (E.means report.new) result }
 
-    // BadCapture, BadFile and NotYet come exactly where the bytes used are refused so, and TooLong exactly where there
-    // is a byte too many and those used are not refused.
+    // BadCapture and BadFile come exactly where the bytes used are refused so, and TooLong exactly where there is a byte
+    // too many and those used are not refused.
     ensures bad_capture { (c : Command) (taken : List ℕ) →
         RunsOver words.now (S.means src.old) (S.means src.new) c taken → (b : BadCapture) →
         ComesExactly result (Status.BadCapture b)
@@ -63,10 +64,6 @@ pub fn run_plain<S: Source, K: Sink, E: Sink>(
         RunsOver words.now (S.means src.old) (S.means src.new) c taken → (b : BadFile) →
         ComesExactly result (Status.BadFile b)
         (refusal_used c taken (S.means src.new).ended ≡ Some (ended.BadFile b)) }
-    ensures not_yet { (c : Command) (taken : List ℕ) →
-        RunsOver words.now (S.means src.old) (S.means src.new) c taken → (at : ℕ) →
-        ComesExactly result (Status.NotYet at)
-        (refusal_used c taken (S.means src.new).ended ≡ Some (ended.NotYet at)) }
     ensures too_long { (c : Command) (taken : List ℕ) →
         RunsOver words.now (S.means src.old) (S.means src.new) c taken →
         ComesExactly result Status.TooLong (IsTooLong c taken) }
@@ -89,8 +86,8 @@ pub fn run_plain<S: Source, K: Sink, E: Sink>(
         RunsOver words.now (S.means src.old) (S.means src.new) c taken →
         EndsAs result (status_of (ended_by c taken (S.means src.new).ended)) }
 
-    // By `compact` the file of the bytes used, or of those before the place that is refused, is written; the report is
-    // not. What was closed before the last 65,536 bytes is written in any case.
+    // By `compact` the file of the bytes used, or of those before the place that is refused, is written. What was closed
+    // before the last 65,536 bytes is written in any case.
     ensures file { (s : Settings) (taken : List ℕ) →
         RunsOver words.now (S.means src.old) (S.means src.new) (Command.Compact s) taken →
         (file : List ℕ) → IsFileOf s (used_bytes (Command.Compact s) taken) file →
@@ -100,11 +97,14 @@ pub fn run_plain<S: Source, K: Sink, E: Sink>(
         65536 < length taken →
         (front : List ℕ) → IsClosedPartOf s (take (length taken - 65536) taken) front →
         AppendsMore (K.means out.old).contents (K.means out.new).contents front }
-    ensures no_report { (s : Settings) → SaysCommand words.now (Command.Compact s) →
-        E.means report.new ≡ E.means report.old }
 
-    // By `check` the report on the bytes used is written, with the status that ended the input, unless nothing did.
-    // Nothing else is written.
+    // The report on the bytes used is written, with the status that ended the input, unless nothing did, or a write of the
+    // file failed or found no memory. By `check` nothing else is written.
+    ensures compact_report { (s : Settings) (taken : List ℕ) →
+        RunsOver words.now (S.means src.old) (S.means src.new) (Command.Compact s) taken →
+        (counts : Counts) → AreCountsOf s (used_bytes (Command.Compact s) taken) counts →
+        ReportsCompact (E.means report.old) (E.means report.new) result counts
+        (status_of (ended_by (Command.Compact s) taken (S.means src.new).ended)) }
     ensures report { (max_input : ℕ) (taken : List ℕ) →
         RunsOver words.now (S.means src.old) (S.means src.new) (Command.Check max_input) taken →
         (counts : ReadCounts) → AreReadCountsOf (used_bytes (Command.Check max_input) taken) counts →
@@ -113,6 +113,8 @@ pub fn run_plain<S: Source, K: Sink, E: Sink>(
     ensures unended { (c : Command) (taken : List ℕ) →
         RunsOver words.now (S.means src.old) (S.means src.new) c taken →
         IsUnended c (S.means src.old) (S.means src.new) taken → E.means report.new ≡ E.means report.old }
+    ensures unwritten { (s : Settings) → SaysCommand words.now (Command.Compact s) →
+        (K.means out.old).refused ≡ false → (K.means out.new).refused ≡ true → E.means report.new ≡ E.means report.old }
     ensures no_output { (max_input : ℕ) → SaysCommand words.now (Command.Check max_input) →
         K.means out.new ≡ K.means out.old }
 
@@ -131,6 +133,7 @@ pub fn run_plain<S: Source, K: Sink, E: Sink>(
         (bytes : List ℕ) → (S.means src.old).left ≡ Some bytes → IsServedCapture s bytes →
         ¬ Rose (S.means src.old).faults (S.means src.new).faults →
         ¬ Rose (K.means out.old).faults (K.means out.new).faults →
+        ¬ Rose (E.means report.old).faults (E.means report.new).faults →
         (result ≡ Status.Done) ⊎ (result ≡ Status.NoMemory) }
     ensures complete_check { (max_input : ℕ) → SaysCommand words.now (Command.Check max_input) →
         (bytes : List ℕ) → (S.means src.old).left ≡ Some bytes → IsWholeFile max_input bytes →
@@ -142,8 +145,8 @@ pub fn run_plain<S: Source, K: Sink, E: Sink>(
     words_say_at_most_one_command();
     match read_words(alloc, words) {
         Ok(Command::Compact(settings)) => {
-            let (ended, _) = compact_plain(alloc, &settings, src, out);
-            status_of(ended)
+            let (ended, counts) = compact_plain(alloc, &settings, src, out);
+            tell_compact(alloc, ended, &counts, report)
         }
         Ok(Command::Check { max_input }) => {
             let (ended, counts) = check(alloc, max_input, src);

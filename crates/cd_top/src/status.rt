@@ -10,9 +10,9 @@ use cd_file::BadFile;
 use cd_packet::BadCapture;
 use std::fmt;
 
-/// How a run ended. At `Done`, `BadCapture`, `BadFile`, `ReadFault`, `TooLong` and `NotYet` the output and the report are
-/// whole; at `Usage` nothing is written but the report; at `WriteFault` and `NoMemory` a prefix of what was to be written
-/// stands there.
+/// How a run ended. At `Done`, `BadCapture`, `BadFile`, `ReadFault` and `TooLong` the output and the report are whole; at
+/// `Usage` nothing is written but the report; at `WriteFault` and `NoMemory` a prefix of what was to be written stands
+/// there.
 #[derive(Clone, Copy, Debug, PartialEq, Eq)]
 pub enum Status {
     /// The input was read to its end.
@@ -31,9 +31,6 @@ pub enum Status {
     NoMemory,
     /// The input has more than `max_input` bytes; what is written is of the first `max_input`.
     TooLong,
-    /// A packet, or the whole capture at 0, cannot be compacted by this version; the file is that of the bytes before
-    /// it. `at` is its offset: bytes from the start of the capture.
-    NotYet { at: u64 },
 }
 
 /// Writes the status in lower case, with a dash between words, and the place and the reason of a refusal.
@@ -54,13 +51,12 @@ impl fmt::Display for Status {
             Status::WriteFault => f.write_str("write-fault"),
             Status::NoMemory => f.write_str("no-memory"),
             Status::TooLong => f.write_str("too-long"),
-            Status::NotYet { at } => write!(f, "not-yet {at}"),
         }
     }
 }
 
 /// The exit status of the program: 0 for `Done`, 1 for `Usage`, 2 for `BadCapture`, 3 for `BadFile`, 4 for `ReadFault`,
-/// 5 for `WriteFault`, 6 for `NoMemory`, 7 for `TooLong` and 8 for `NotYet`.
+/// 5 for `WriteFault`, 6 for `NoMemory` and 7 for `TooLong`.
 pub fn exit_code(status: &Status) -> u8
     ensures { result ≡ code_of status.now }
 {
@@ -73,7 +69,6 @@ pub fn exit_code(status: &Status) -> u8
         Status::WriteFault => 5,
         Status::NoMemory => 6,
         Status::TooLong => 7,
-        Status::NotYet { .. } => 8,
     }
 }
 
@@ -89,6 +84,5 @@ pub(crate) fn status_of(ended: Ended) -> Status
         Ended::WriteFault => Status::WriteFault,
         Ended::NoMemory => Status::NoMemory,
         Ended::TooLong => Status::TooLong,
-        Ended::NotYet { at } => Status::NotYet { at },
     }
 }

@@ -94,7 +94,7 @@ pub fn words_of(alloc: Global, words: &[&[u8]]) -> Result<Vec<Blob>, AllocError>
     Ok(blobs)
 }
 
-/// Compacts the capture of a source. The report stays empty.
+/// Compacts the capture of a source. The report stays empty where the output fails, and only there.
 pub fn compacted<S: Source>(
     alloc: Global,
     src: &mut S,
@@ -106,7 +106,7 @@ pub fn compacted<S: Source>(
     )?;
     let mut report = sound_sink(alloc);
     let status = run_plain(alloc, &words, src, out, &mut report);
-    if report.contents().is_empty() {
+    if report.contents().is_empty() == (status == Status::WriteFault) {
         Ok(status)
     } else {
         Err(AllocError)

@@ -1,8 +1,7 @@
 use Rattle.std.proofs.Common.{Ok, Err, ◌∙◌, sym}
 use Rattle.cd_ports.specs.declared.sink.SinkFault.TheVariants as fault
-use Rattle.cd_engine.proofs.Compacted.{are_refusals, compacts_driven, told_driven, outranks_driven, served_accepted, done_driven, unread, unread_told}
+use Rattle.cd_engine.proofs.Compacted.{ended_bad, are_refusals, compacts_driven, told_driven, outranks_driven, served_accepted, done_driven, unread, unread_told}
 use Rattle.cd_engine.proofs.RunsEnd.{done_told, fault_told, no_write_fault}
-use Rattle.cd_engine.specs.Endings.{ended_for}
 use Rattle.cd_engine.proofs.compaction.compact_plain.Goals as goal
 
 pub returns-in-Err-clause-compacts : goal.returns-in-Err-clause-compacts
@@ -26,13 +25,13 @@ returns-in-Ok-drive-clause-told g c =
     (Ok c.in-Ok-drive.field-0) (rw c.in-Ok.ensures.settings at c.in-Ok-drive.ensures.told))
 
 pub returns-in-Ok-drive-clause-done : goal.returns-in-Ok-drive-clause-done
-returns-in-Ok-drive-clause-done g c = λ e. c.in-Ok-drive.ensures.done (done_told ended_for are_refusals c.in-Ok-drive.field-0.stop (sym c.ended_of.ensures ∙ e))
+returns-in-Ok-drive-clause-done g c = λ e. c.in-Ok-drive.ensures.done (done_told ended_bad are_refusals c.in-Ok-drive.field-0.stop (sym c.ended_of.ensures ∙ e))
 
 pub returns-in-Ok-drive-clause-read_fault : goal.returns-in-Ok-drive-clause-read_fault
-returns-in-Ok-drive-clause-read_fault g c = λ e. c.in-Ok-drive.ensures.read_fault (fault_told ended_for are_refusals c.in-Ok-drive.field-0.stop (sym c.ended_of.ensures ∙ e))
+returns-in-Ok-drive-clause-read_fault g c = λ e. c.in-Ok-drive.ensures.read_fault (fault_told ended_bad are_refusals c.in-Ok-drive.field-0.stop (sym c.ended_of.ensures ∙ e))
 
 pub returns-in-Ok-drive-clause-write_fault : goal.returns-in-Ok-drive-clause-write_fault
-returns-in-Ok-drive-clause-write_fault g c = λ e. absurd (no_write_fault ended_for are_refusals c.in-Ok-drive.field-0.stop (sym c.ended_of.ensures ∙ e))
+returns-in-Ok-drive-clause-write_fault g c = λ e. absurd (no_write_fault ended_bad are_refusals c.in-Ok-drive.field-0.stop (sym c.ended_of.ensures ∙ e))
 
 pub returns-in-Ok-drive-clause-outranks : goal.returns-in-Ok-drive-clause-outranks
 returns-in-Ok-drive-clause-outranks g c =

@@ -1,13 +1,15 @@
-use Rattle.std.proofs.Common.{[], arith, refl, inr}
+use Rattle.std.proofs.Common.{[], arith, refl, inl, inr}
 use Rattle.cd_engine.specs.declared.ended.Ended.TheVariants as ended
 use Rattle.cd_words.specs.declared.command.Command.TheVariants.{Compact, Check}
 use Rattle.cd_top.specs.declared.status.Status.TheVariants as status
 use Rattle.cd_top.proofs.BrokenWords.{broken_is_no_line, broken_says_none, says_as, refused_words, refused_spent}
-use Rattle.cd_top.proofs.Checked.{told_ends_as, told_end_is, check_ends, check_reports, check_unended, check_takes, check_completes, done_goes, whole_as_said}
-use Rattle.cd_top.proofs.Compacted.{run_ends, compact_takes}
-use Rattle.cd_top.proofs.Mapping.{memory_stops, comes_stopped}
-use Rattle.cd_top.proofs.Refused.{refused_comes, too_long_comes, capture_refusal, file_refusal, not_yet_refusal}
+use Rattle.cd_top.proofs.Checked.{check_ends, check_reports, check_unended, check_takes, whole_as_said}
+use Rattle.cd_top.proofs.Compacted.{run_ends, run_writes, compact_reports, compact_unended, compact_outranks, compact_takes, served_as_said}
+use Rattle.cd_top.specs.Reports.{check_report, compact_report}
+use Rattle.cd_top.proofs.Mapping.{memory_stops, comes_stopped, at_stop}
+use Rattle.cd_top.proofs.Refused.{refused_comes, too_long_comes, capture_refusal, file_refusal}
 use Rattle.cd_top.proofs.Reporting.{unsaid}
+use Rattle.cd_top.proofs.Telling.{told_ends_as, told_end_is, completes, done_goes}
 use Rattle.cd_top.proofs.Unread.{none_taken, none_stops, unread, writes_none}
 use Rattle.cd_top.proofs.run.run_plain.Goals as goal
 
@@ -16,19 +18,68 @@ returns-in-Ok-Compact-clause-refuses g c = λ place breaks. absurd (broken_is_no
 
 pub returns-in-Ok-Compact-clause-bad_capture : goal.returns-in-Ok-Compact-clause-bad_capture
 returns-in-Ok-Compact-clause-bad_capture g c = λ d taken over b. refused_comes _ d taken _ (ended.BadCapture b) (capture_refusal b)
-    (run_ends c.words_say_at_most_one_command.ensures c.args.words.now _ d _ _ _ _ _ taken _ (says_as c.args.words.now c.in-Ok-Compact.field-0 _ c.in-Ok-Compact.field-0-is c.in-Ok-Compact.ensures.command) c.status_of.ensures c.compact_plain-ended.ensures.told over)
-
-pub returns-in-Ok-Compact-clause-not_yet : goal.returns-in-Ok-Compact-clause-not_yet
-returns-in-Ok-Compact-clause-not_yet g c = λ d taken over at. refused_comes _ d taken _ (ended.NotYet at) (not_yet_refusal at)
-    (run_ends c.words_say_at_most_one_command.ensures c.args.words.now _ d _ _ _ _ _ taken _ (says_as c.args.words.now c.in-Ok-Compact.field-0 _ c.in-Ok-Compact.field-0-is c.in-Ok-Compact.ensures.command) c.status_of.ensures c.compact_plain-ended.ensures.told over)
+    (run_ends c.words_say_at_most_one_command.ensures c.args.words.now _ d _ _ _ _ _ _ c.compact_plain-ended.result taken _ (says_as c.args.words.now c.in-Ok-Compact.field-0 _ c.in-Ok-Compact.field-0-is c.in-Ok-Compact.ensures.command) c.tell_compact.ensures.tells c.compact_plain-ended.ensures.told over)
 
 pub returns-in-Ok-Compact-clause-too_long : goal.returns-in-Ok-Compact-clause-too_long
 returns-in-Ok-Compact-clause-too_long g c = λ d taken over. too_long_comes _ d taken _
-    (run_ends c.words_say_at_most_one_command.ensures c.args.words.now _ d _ _ _ _ _ taken _ (says_as c.args.words.now c.in-Ok-Compact.field-0 _ c.in-Ok-Compact.field-0-is c.in-Ok-Compact.ensures.command) c.status_of.ensures c.compact_plain-ended.ensures.told over)
+    (run_ends c.words_say_at_most_one_command.ensures c.args.words.now _ d _ _ _ _ _ _ c.compact_plain-ended.result taken _ (says_as c.args.words.now c.in-Ok-Compact.field-0 _ c.in-Ok-Compact.field-0-is c.in-Ok-Compact.ensures.command) c.tell_compact.ensures.tells c.compact_plain-ended.ensures.told over)
 
 pub returns-in-Ok-Compact-clause-ending : goal.returns-in-Ok-Compact-clause-ending
 returns-in-Ok-Compact-clause-ending g c = λ d taken over.
-    run_ends c.words_say_at_most_one_command.ensures c.args.words.now _ d _ _ _ _ _ taken _ (says_as c.args.words.now c.in-Ok-Compact.field-0 _ c.in-Ok-Compact.field-0-is c.in-Ok-Compact.ensures.command) c.status_of.ensures c.compact_plain-ended.ensures.told over
+    run_ends c.words_say_at_most_one_command.ensures c.args.words.now _ d _ _ _ _ _ _ c.compact_plain-ended.result taken _ (says_as c.args.words.now c.in-Ok-Compact.field-0 _ c.in-Ok-Compact.field-0-is c.in-Ok-Compact.ensures.command) c.tell_compact.ensures.tells c.compact_plain-ended.ensures.told over
+
+pub returns-in-Ok-Compact-clause-bad_file : goal.returns-in-Ok-Compact-clause-bad_file
+returns-in-Ok-Compact-clause-bad_file g c = λ d taken over b. refused_comes _ d taken _ (ended.BadFile b) (file_refusal b)
+    (run_ends c.words_say_at_most_one_command.ensures c.args.words.now _ d _ _ _ _ _ _ c.compact_plain-ended.result taken _ (says_as c.args.words.now c.in-Ok-Compact.field-0 _ c.in-Ok-Compact.field-0-is c.in-Ok-Compact.ensures.command) c.tell_compact.ensures.tells c.compact_plain-ended.ensures.told over)
+
+pub returns-in-Ok-Compact-clause-done : goal.returns-in-Ok-Compact-clause-done
+returns-in-Ok-Compact-clause-done g c = λ is. c.compact_plain-ended.ensures.done (told_end_is compact_report _ _ _ c.compact_plain-ended.result.0 ended.Done c.compact_plain-ended.result.1 c.tell_compact.ensures.tells is (λ halt. halt))
+
+pub returns-in-Ok-Compact-clause-done_whole : goal.returns-in-Ok-Compact-clause-done_whole
+returns-in-Ok-Compact-clause-done_whole g c = λ is.
+    let done = told_end_is compact_report _ _ _ c.compact_plain-ended.result.0 ended.Done c.compact_plain-ended.result.1 c.tell_compact.ensures.tells is (λ halt. halt) in
+    c.compact_plain-ended.ensures.at_end (done_goes c.compact_plain-ended.result.0 done) (c.compact_plain-ended.ensures.done done)
+
+pub returns-in-Ok-Compact-clause-read_fault : goal.returns-in-Ok-Compact-clause-read_fault
+returns-in-Ok-Compact-clause-read_fault g c = λ is. c.compact_plain-ended.ensures.read_fault (told_end_is compact_report _ _ _ c.compact_plain-ended.result.0 ended.ReadFault c.compact_plain-ended.result.1 c.tell_compact.ensures.tells is (λ halt. halt))
+
+pub returns-in-Ok-Compact-clause-read_fault_told : goal.returns-in-Ok-Compact-clause-read_fault_told
+returns-in-Ok-Compact-clause-read_fault_told g c = λ before now.
+    told_ends_as compact_report _ _ _ c.compact_plain-ended.result.0 ended.ReadFault c.compact_plain-ended.result.1 c.tell_compact.ensures.tells (c.compact_plain-ended.ensures.read_fault_told before now)
+
+pub returns-in-Ok-Compact-clause-write_fault : goal.returns-in-Ok-Compact-clause-write_fault
+returns-in-Ok-Compact-clause-write_fault g c = λ is. elim (c.tell_compact.ensures.write_fault is) [
+  | inl written ↦ inl (c.compact_plain-ended.ensures.write_fault written)
+  | inr told ↦ inr told
+]
+
+pub returns-in-Ok-Compact-clause-outranks_out : goal.returns-in-Ok-Compact-clause-outranks_out
+returns-in-Ok-Compact-clause-outranks_out g c = compact_outranks _ _ _ _ c.compact_plain-ended.result _ c.tell_compact.ensures.tells c.compact_plain-ended.ensures.outranks
+
+pub returns-in-Ok-Compact-clause-file : goal.returns-in-Ok-Compact-clause-file
+returns-in-Ok-Compact-clause-file g c = λ s taken over file of.
+    run_writes c.words_say_at_most_one_command.ensures c.args.words.now _ s _ _ _ _ _ _ c.compact_plain-ended.result taken file _ (says_as c.args.words.now c.in-Ok-Compact.field-0 _ c.in-Ok-Compact.field-0-is c.in-Ok-Compact.ensures.command) c.tell_compact.ensures.tells c.compact_plain-ended.ensures.told over of
+
+pub returns-in-Ok-Compact-clause-compact_report : goal.returns-in-Ok-Compact-clause-compact_report
+returns-in-Ok-Compact-clause-compact_report g c = λ s taken over counts are.
+    compact_reports c.words_say_at_most_one_command.ensures c.args.words.now _ s _ _ _ _ _ _ c.compact_plain-ended.result taken counts _ (says_as c.args.words.now c.in-Ok-Compact.field-0 _ c.in-Ok-Compact.field-0-is c.in-Ok-Compact.ensures.command) c.tell_compact.ensures.tells c.compact_plain-ended.ensures.told over are
+
+pub returns-in-Ok-Compact-clause-unended : goal.returns-in-Ok-Compact-clause-unended
+returns-in-Ok-Compact-clause-unended g c = λ d taken over unended.
+    compact_unended c.words_say_at_most_one_command.ensures c.args.words.now _ d _ _ _ _ _ _ c.compact_plain-ended.result taken _ (says_as c.args.words.now c.in-Ok-Compact.field-0 _ c.in-Ok-Compact.field-0-is c.in-Ok-Compact.ensures.command) c.tell_compact.ensures.tells c.compact_plain-ended.ensures.told over unended c.compact_plain-ended.ensures.read_fault
+
+pub returns-in-Ok-Compact-clause-unwritten : goal.returns-in-Ok-Compact-clause-unwritten
+returns-in-Ok-Compact-clause-unwritten g c = λ s says sound refused.
+    (at_stop c.compact_plain-ended.result.0 _ _ (c.compact_plain-ended.ensures.outranks.refused sound refused) c.tell_compact.ensures.tells).1
+
+pub returns-in-Ok-Compact-clause-complete : goal.returns-in-Ok-Compact-clause-complete
+returns-in-Ok-Compact-clause-complete g c = λ s says bytes left served reads writes reports.
+    completes compact_report _ _ _ c.compact_plain-ended.result.0 c.compact_plain-ended.result.1 c.tell_compact.ensures.tells
+    (λ is. elim (c.tell_compact.ensures.write_fault is) [
+      | inl written ↦ writes (c.compact_plain-ended.ensures.write_fault written)
+      | inr told ↦ reports told
+    ])
+    (c.compact_plain-ended.ensures.complete bytes left (served_as_said c.words_say_at_most_one_command.ensures c.args.words.now _ s bytes (says_as c.args.words.now c.in-Ok-Compact.field-0 _ c.in-Ok-Compact.field-0-is c.in-Ok-Compact.ensures.command) says served) reads writes)
 
 pub returns-in-Ok-Check-clause-refuses : goal.returns-in-Ok-Check-clause-refuses
 returns-in-Ok-Check-clause-refuses g c = λ place breaks. absurd (broken_is_no_line c.words_are_a_line_or_break_a_rule.ensures c.args.words.now place breaks (Check c.in-Ok-Check.max_input, says_as c.args.words.now c.in-Ok-Check.field-0 _ c.in-Ok-Check.field-0-is c.in-Ok-Check.ensures.command))
@@ -39,10 +90,6 @@ returns-in-Ok-Check-clause-bad_capture g c = λ d taken over b. refused_comes _ 
 
 pub returns-in-Ok-Check-clause-bad_file : goal.returns-in-Ok-Check-clause-bad_file
 returns-in-Ok-Check-clause-bad_file g c = λ d taken over b. refused_comes _ d taken _ (ended.BadFile b) (file_refusal b)
-    (check_ends c.words_say_at_most_one_command.ensures c.args.words.now _ d _ _ _ _ c.check-ended.result taken _ (says_as c.args.words.now c.in-Ok-Check.field-0 _ c.in-Ok-Check.field-0-is c.in-Ok-Check.ensures.command) c.tell_check.ensures.tells c.check-ended.ensures.told over)
-
-pub returns-in-Ok-Check-clause-not_yet : goal.returns-in-Ok-Check-clause-not_yet
-returns-in-Ok-Check-clause-not_yet g c = λ d taken over at. refused_comes _ d taken _ (ended.NotYet at) (not_yet_refusal at)
     (check_ends c.words_say_at_most_one_command.ensures c.args.words.now _ d _ _ _ _ c.check-ended.result taken _ (says_as c.args.words.now c.in-Ok-Check.field-0 _ c.in-Ok-Check.field-0-is c.in-Ok-Check.ensures.command) c.tell_check.ensures.tells c.check-ended.ensures.told over)
 
 pub returns-in-Ok-Check-clause-too_long : goal.returns-in-Ok-Check-clause-too_long
@@ -58,16 +105,16 @@ returns-in-Ok-Compact-clause-taken g c = λ d says bytes told.
     compact_takes c.words_say_at_most_one_command.ensures c.args.words.now _ d _ _ _ _ _ bytes (says_as c.args.words.now c.in-Ok-Compact.field-0 _ c.in-Ok-Compact.field-0-is c.in-Ok-Compact.ensures.command) says told c.compact_plain-ended.ensures.compacts
 
 pub returns-in-Ok-Check-clause-done : goal.returns-in-Ok-Check-clause-done
-returns-in-Ok-Check-clause-done g c = λ is. c.check-ended.ensures.done (told_end_is _ _ _ c.check-ended.result.0 ended.Done c.check-ended.result.1 c.tell_check.ensures.tells is (λ halt. halt))
+returns-in-Ok-Check-clause-done g c = λ is. c.check-ended.ensures.done (told_end_is check_report _ _ _ c.check-ended.result.0 ended.Done c.check-ended.result.1 c.tell_check.ensures.tells is (λ halt. halt))
 
 pub returns-in-Ok-Check-clause-done_whole : goal.returns-in-Ok-Check-clause-done_whole
 returns-in-Ok-Check-clause-done_whole g c = λ is.
-    let done = told_end_is _ _ _ c.check-ended.result.0 ended.Done c.check-ended.result.1 c.tell_check.ensures.tells is (λ halt. halt) in
+    let done = told_end_is check_report _ _ _ c.check-ended.result.0 ended.Done c.check-ended.result.1 c.tell_check.ensures.tells is (λ halt. halt) in
     c.check-ended.ensures.at_end (done_goes c.check-ended.result.0 done) (c.check-ended.ensures.done done)
 
 pub returns-in-Ok-Check-clause-read_fault_told : goal.returns-in-Ok-Check-clause-read_fault_told
 returns-in-Ok-Check-clause-read_fault_told g c = λ before now.
-    told_ends_as _ _ _ c.check-ended.result.0 ended.ReadFault c.check-ended.result.1 c.tell_check.ensures.tells (c.check-ended.ensures.read_fault_told before now)
+    told_ends_as check_report _ _ _ c.check-ended.result.0 ended.ReadFault c.check-ended.result.1 c.tell_check.ensures.tells (c.check-ended.ensures.read_fault_told before now)
 
 pub returns-in-Ok-Check-clause-write_fault : goal.returns-in-Ok-Check-clause-write_fault
 returns-in-Ok-Check-clause-write_fault g c = λ is. inr (c.tell_check.ensures.write_fault is)
@@ -86,7 +133,7 @@ returns-in-Ok-Check-clause-taken g c = λ d says bytes told.
 
 pub returns-in-Ok-Check-clause-complete_check : goal.returns-in-Ok-Check-clause-complete_check
 returns-in-Ok-Check-clause-complete_check g c = λ max_input says bytes left whole quiet unfailed.
-    check_completes _ _ _ c.check-ended.result.0 c.check-ended.result.1 c.tell_check.ensures.tells (λ is. unfailed (c.tell_check.ensures.write_fault is))
+    completes check_report _ _ _ c.check-ended.result.0 c.check-ended.result.1 c.tell_check.ensures.tells (λ is. unfailed (c.tell_check.ensures.write_fault is))
     (c.check-ended.ensures.complete bytes left (whole_as_said c.words_say_at_most_one_command.ensures c.args.words.now _ max_input bytes (says_as c.args.words.now c.in-Ok-Check.field-0 _ c.in-Ok-Check.field-0-is c.in-Ok-Check.ensures.command) says whole) quiet)
 
 pub returns-in-Err-Usage-clause-refuses : goal.returns-in-Err-Usage-clause-refuses
@@ -125,9 +172,6 @@ returns-in-Err-NoMemory-clause-bad_capture g c = λ d taken over b. comes_stoppe
 pub returns-in-Err-NoMemory-clause-bad_file : goal.returns-in-Err-NoMemory-clause-bad_file
 returns-in-Err-NoMemory-clause-bad_file g c = λ d taken over b. comes_stopped status.NoMemory (status.BadFile b) _ refl (λ same. cc)
 
-pub returns-in-Err-NoMemory-clause-not_yet : goal.returns-in-Err-NoMemory-clause-not_yet
-returns-in-Err-NoMemory-clause-not_yet g c = λ d taken over at. comes_stopped status.NoMemory (status.NotYet at) _ refl (λ same. cc)
-
 pub returns-in-Err-NoMemory-clause-too_long : goal.returns-in-Err-NoMemory-clause-too_long
 returns-in-Err-NoMemory-clause-too_long g c = λ d taken over. comes_stopped status.NoMemory status.TooLong _ refl (λ same. cc)
 
@@ -145,3 +189,10 @@ returns-in-Err-NoMemory-clause-report g c = λ max_input taken over counts are. 
 
 pub returns-in-Err-NoMemory-clause-taken : goal.returns-in-Err-NoMemory-clause-taken
 returns-in-Err-NoMemory-clause-taken g c = λ d says bytes told. ([], none_taken _ bytes told, none_stops d _)
+
+pub returns-in-Err-Usage-clause-compact_report : goal.returns-in-Err-Usage-clause-compact_report
+returns-in-Err-Usage-clause-compact_report g c = λ s taken over counts are.
+    absurd (broken_says_none c.words_are_a_line_or_break_a_rule.ensures c.args.words.now c.in-Err-Usage.field-0 c.in-Err-Usage.place (Compact s) c.in-Err-Usage.field-0-is c.in-Err-Usage.ensures.fault over.says)
+
+pub returns-in-Err-NoMemory-clause-compact_report : goal.returns-in-Err-NoMemory-clause-compact_report
+returns-in-Err-NoMemory-clause-compact_report g c = λ s taken over counts are. unsaid _ _ _

@@ -1,4 +1,4 @@
-use Rattle.std.proofs.Common.{◌≡◌, ℕ, false, List, length}
+use Rattle.std.proofs.Common.{◌≡◌, ℕ, ◌-◌, ◌^◌, false, List}
 use Rattle.cd_engine.specs.Events.{rules_of}
 use Rattle.cd_engine.specs.Standing.{ReadsOn}
 use Rattle.cd_engine.proofs.compactor.Compactor.take_packets.Given as goal
@@ -10,8 +10,7 @@ invariant-packets l = record {
   settings : l.self.blocks.filing.settings ≡ l.fn.self.blocks.filing.settings;
   fresh : l.self.blocks.spent ≡ false;
   count : l.self.reader.fed_count ≡ l.fn.self.reader.fed_count;
-  first : l.self.first ≡ l.fn.self.first;
 }
 
 abbrev pub decreases-packets : goal.decreases-packets
-decreases-packets l = length l.self.reader.held
+decreases-packets l = 2 ^ 48 - l.self.reader.passed

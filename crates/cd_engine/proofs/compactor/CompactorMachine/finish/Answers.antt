@@ -8,4 +8,4 @@ pub returns-clause-counts : goal.returns-clause-counts
 returns-clause-counts c =
     rw (← c.self.view_is, c.counts_of.ensures)
     (λ fed cleared h. whole_counts _ fed cleared c.end.result _ _ _ c.in_ok-filed.ensures.blocks c.in_ok-filed.ensures.counts
-    (λ none. c.end.ensures fed h.given (h.reads none)) c.is_cut_short-cut.ensures h)
+    (c.end.ensures fed h.on.given h.on.reads) c.is_cut-cut.ensures h)
