@@ -40,3 +40,9 @@ pub mod MapsKeep
 pub mod BlockParts
 pub mod BlocksTold
 pub mod KeptTold
+pub mod TicksHeld
+pub mod KindsGive
+pub mod TablesRanged
+pub mod KeptRanged
+pub mod ParamsRanged
+pub mod FilesRanged

@@ -143,7 +143,7 @@ pub any_value : {A : Type 0} (kind : Kind A) → KindGives kind (λ value. ⊤)
 any_value kind = record { gives = λ key item value h. tt }
 
 -- values one after another
-each_gives : {A : Type 0} (Q : A → Type 0) (kind : Kind A) → KindGives kind Q → (key : ℤ) (items : List Item) (values : List A) → each kind key items ≡ Ok values → AllByRecursion Q values
+pub each_gives : {A : Type 0} (Q : A → Type 0) (kind : Kind A) → KindGives kind Q → (key : ℤ) (items : List Item) (values : List A) → each kind key items ≡ Ok values → AllByRecursion Q values
 unfolding each
 each_gives Q kind of key [] values h = subst (AllByRecursion Q) (read_same [] values h) tt
 each_gives Q kind of key (item ∷ items) values h =
@@ -157,3 +157,17 @@ unfolding array_of
 array_gives Q kind of = record {
   gives = λ key item values h. let k = bind_read (or_shape key (items_in (out-Item item))) _ values h in each_gives Q kind of key k.0 values k.2;
 }
+
+-- lines of what holds for no count
+module _ {F : Type 0} (P : F → Type 0) where
+  pub required_line : {A : Type 0} (Q : A → Type 0) (kind : Kind A) (put : A → F → F) (key : ℕ) → KindGives kind Q → ((value : A) (fields : F) → Q value → P fields → P (put value fields)) → Keeps P (required key kind put)
+  required_line Q kind put key of puts = required_keeps (λ n. P) (λ n more fields p. p) Q kind put key of (λ value fields n q p. puts value fields q p)
+
+  pub optional_line : {A : Type 0} (Q : A → Type 0) (kind : Kind A) (put : A → F → F) (key : ℕ) → KindGives kind Q → ((value : A) (fields : F) → Q value → P fields → P (put value fields)) → Keeps P (optional key kind put)
+  optional_line Q kind put key of puts = optional_keeps (λ n. P) (λ n more fields p. p) Q kind put key of (λ value fields n q p. puts value fields q p)
+
+  pub required_within_line : (key : ℕ) (table : List (Line F)) → AllByRecursion (Keeps P) table → Keeps P (required_within key table)
+  required_within_line key table all = required_within_keeps (λ n. P) (λ n more fields p. p) key table (λ n. all)
+
+  pub within_line : (key : ℕ) (table : List (Line F)) → AllByRecursion (Keeps P) table → Keeps P (optional_within key table)
+  within_line key table all = optional_within_keeps (λ n. P) (λ n more fields p. p) key table (λ n. all)

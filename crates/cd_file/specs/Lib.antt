@@ -25,3 +25,4 @@ pub mod Putting
 pub mod StringReading
 pub mod Meeting
 pub mod PartsInBytes
+pub mod ReadRanges

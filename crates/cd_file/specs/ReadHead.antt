@@ -1,6 +1,6 @@
 -- What the preamble of a file gives: its block parameters, or the first refusal (RFC 8618 7.3.1). Each kind of map has one
 -- table, with a line a key: whether it is required, its kind, and its place.
-use Rattle.std.specs.Prelude.{ℕ, ◌+◌, ◌%◌, ◌^◌, nat_eq, nat_le, Bool, true, ◌&&◌, List, [], ◌∷◌, None, Some, Ok, Err, ok_or, slice_set, if◌then◌else◌}
+use Rattle.std.specs.Prelude.{◌≡◌, ℕ, ◌+◌, ◌%◌, ◌^◌, nat_eq, nat_le, Bool, true, ◌&&◌, List, [], ◌∷◌, None, Some, Ok, Err, ok_or, slice_set, if◌then◌else◌}
 use Rattle.cd_cbor.specs.declared.item.Item.{Item}
 use Rattle.cd_cbor.specs.declared.item.Item.TheViews.{out-Item}
 use Rattle.cd_block.specs.declared.hints.Hints.{Hints}
@@ -103,6 +103,10 @@ has_ticks p = nat_le 1 p.ticks && nat_le p.ticks 1000000000
 unfoldable pub have_ticks : List Params → Bool
 have_ticks [] = true
 have_ticks (p ∷ ps) = has_ticks p && have_ticks ps
+
+-- by each of these block parameters a second has 1 to 1,000,000,000 ticks
+abbrev pub HasTicks : List Params → Type 0
+HasTicks entries = have_ticks entries ≡ true
 
 -- the block parameters of a preamble of major version 1 whose ticks are in their range
 abbrev pub judged_preamble : Preamble → Refusing (List Params)

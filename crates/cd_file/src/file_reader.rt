@@ -1,6 +1,6 @@
 //! A reader of a file that comes in pieces.
 
-ghost use Rattle.std.specs.Prelude.{◌≡◌, ℕ, ◌+◌, ◌≤◌, ◌<◌, ◌^◌, [], ◌∷◌, ◌++◌, List, length, drop, Option, Some, None, OnOk, OnErr, IsErr, Ok, Err, is_some, option_map};
+ghost use Rattle.std.specs.Prelude.{◌≡◌, ℕ, ◌+◌, ◌≤◌, ◌<◌, ◌^◌, [], ◌∷◌, ◌++◌, List, length, drop, Option, Some, None, OnOk, OnErr, IsErr, Ok, Err, is_some, option_map, IfSome};
 ghost use Rattle.std.specs.Prelude.{false, true};
 ghost use Rattle.cd_block.specs.declared.block.Block.{Block as BlockRead};
 ghost use Rattle.cd_block.specs.declared.params.Params.{Params as ParamsRead};
@@ -9,12 +9,12 @@ ghost use Rattle.cd_file.specs.Passing.{told_at};
 ghost use Rattle.cd_file.specs.ReadFile as files;
 ghost use Rattle.cd_file.specs.declared.refusal.FileFault.TheVariants as fault;
 
+use crate::block_parameters::BlockParameters;
 use crate::fronts::{Ending, Unread};
 use crate::progress::{Found, Progress};
 use crate::refusal::{BadFile, FileFault, FileWhy};
 use crate::stage::Stage;
 use cd_block::{Block, Params};
-use cd_name::List;
 use std::alloc::{AllocError, Global};
 use std::marker::Model;
 
@@ -38,13 +38,6 @@ fn rest(bytes: &Vec<u8>, start: usize) -> &[u8]
     ensures { result.now ≡ drop start bytes.now.items }
 {
     &bytes.as_slice()[start..]
-}
-
-// How many block parameters there are.
-fn entry_count(entries: &List<Params>) -> usize
-    ensures { result ≡ length entries.now }
-{
-    entries.as_slice().len()
 }
 
 // The number of what is due after so many blocks.
@@ -71,7 +64,7 @@ pub struct FileReader {
     at: u64,
     progress: Progress,
     // The block parameters, once the preamble is read.
-    entries: List<Params>,
+    entries: BlockParameters,
     given_count: u64,
     // The refusal that a call for a block gave, and the one that the last call for the end gave.
     refused: Option<BadFile>,
@@ -128,7 +121,7 @@ impl FileReader {
             start: 0,
             at: 0,
             progress: Progress::new(alloc),
-            entries: List::from_vec(Vec::new(alloc)),
+            entries: BlockParameters::none(alloc),
             given_count: 0,
             refused: None,
             ended: None,
@@ -195,7 +188,7 @@ impl FileReader {
     fn step(&mut self) -> Result<Option<Block>, Unread>
         ensures { Steps self.old self.new result }
     {
-        let count = entry_count(&self.entries);
+        let count = self.entries.len();
         let held = rest(&self.bytes, self.start);
         let (found, size) = match self.progress.pass(self.alloc, count, held, self.at) {
             Ok(passed) => passed,
@@ -279,7 +272,7 @@ impl FileReader {
         ensures { LooksAhead self.now result }
     {
         let mut progress = self.progress.again(self.alloc)?;
-        let mut known = entry_count(&self.entries);
+        let mut known = self.entries.len();
         let mut start = self.start;
         let mut at = self.at;
         let mut count = self.given_count;
@@ -296,7 +289,7 @@ impl FileReader {
             at += size as u64;
             match found {
                 Found::Nothing => {}
-                Found::Entries(entries) => known = entry_count(&entries),
+                Found::Entries(entries) => known = entries.len(),
                 Found::Block(_block) => count += 1,
             }
         }
@@ -367,13 +360,15 @@ impl FileReader {
     /// The block parameters with this number, once a call of `next_block` came past the head of the array of blocks, the
     /// third item of the file. A reader that is spent tells none.
     pub fn params(&self, number: u64) -> Option<&Params>
-        ensures { option_map (λ p. p.now) result ≡ told_params self.now number }
+        ensures told { option_map (λ p. p.now) result ≡ told_params self.now number }
+        ensures least { IfSome result (λ p. 0 < p.now.ticks) }
+        ensures most { IfSome result (λ p. p.now.ticks ≤ 1000000000) }
     {
         if self.is_spent {
             return None;
         }
         match self.progress.stage() {
-            Stage::Block(_left) => self.entries.as_slice().get(number as usize),
+            Stage::Block(_left) => self.entries.get(number),
             _ => None,
         }
     }

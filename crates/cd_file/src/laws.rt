@@ -7,6 +7,7 @@ ghost use Rattle.cd_file.specs.Files.{file_head, block_spelling, file_begun, fil
 ghost use Rattle.cd_file.specs.ReadBack.{FileIsReadBack, OpenFileIsReadBack, FileIsKept};
 ghost use Rattle.cd_file.specs.FileGrowth.{FilesGrow};
 ghost use Rattle.cd_file.specs.PartsInBytes.{PartsHaveBytes, BlocksHaveParams};
+ghost use Rattle.cd_file.specs.ReadRanges.{ReadInRange};
 
 /// A head, then each block in turn, then the end are the file of these parameters and blocks.
 pub fn a_file_grows_by_its_blocks()
@@ -37,4 +38,10 @@ pub fn files_grow()
 pub fn parts_have_bytes()
     ensures parts { PartsHaveBytes }
     ensures params { BlocksHaveParams }
+{}
+
+/// What any bytes give as a file, with each value in its place, lies in the ranges in which it is read; nothing beyond them
+/// is given.
+pub fn what_is_read_is_in_range()
+    ensures { ReadInRange }
 {}

@@ -41,6 +41,7 @@
 #![tactic(auto)]
 
 mod block;
+mod block_parameters;
 mod end;
 mod entries;
 mod file_reader;

@@ -1,20 +1,21 @@
 //! What is known of a file so far, and what the next part of it changes.
 
 ghost use Rattle.std.specs.Prelude.{◌≡◌, ℕ, true, false, ◌+◌, ◌<◌, ◌^◌, List, [], Option, Some, None, length, IfOk, OnOk, OnErr, ◌++◌};
+ghost use Rattle.cd_block.specs.declared.params.Params.{Params};
 ghost use Rattle.cd_file.specs.ReadFile as files;
 ghost use Rattle.cd_file.specs.Fronts.{ending_of};
 ghost use Rattle.cd_file.specs.Passing.{IsPlaced, IsScanned, Passes, end_of_blocks};
 ghost use Rattle.cd_file.specs.declared.stage.Stage.TheVariants as stage;
 ghost use Rattle.std.specs.Option.{option_map};
 
+use crate::block_parameters::BlockParameters;
 use crate::fronts::{
     BLOCK_DEPTH, Ending, ItemScan, PREAMBLE_DEPTH, Unread, block_front, chunk_front, closing,
     count_front, is_title, outer_front, preamble_front, title_front, title_head,
 };
 use crate::refusal::FileWhy;
 use crate::stage::Stage;
-use cd_block::{Block, Params};
-use cd_name::List;
+use cd_block::Block;
 use std::alloc::{AllocError, Global};
 use std::marker::Model;
 
@@ -27,7 +28,7 @@ pub enum Found {
     /// A part of the head, or the head of the array of blocks.
     Nothing,
     /// The preamble, with its block parameters.
-    Entries(List<Params>),
+    Entries(BlockParameters),
     /// A block.
     Block(Block),
 }

@@ -7,11 +7,11 @@ ghost use Rattle.cd_file.specs.Fronts.{GivesPart, StandsForItem};
 use super::ending::{Ending, Unread};
 use super::heads::element_head;
 use super::item::ItemScan;
+use crate::block_parameters::BlockParameters;
 use crate::reading::{ItemFault, block_of, params_of};
 use crate::refusal::FileWhy;
-use cd_block::{Block, Params};
+use cd_block::Block;
 use cd_cbor::MajorType;
-use cd_name::List;
 use std::alloc::Global;
 
 /// So many arrays, maps and tags may be open in the preamble, which stands in the outer array.
@@ -39,7 +39,7 @@ pub fn preamble_front(
     held: &[u8],
     is_open: bool,
     at: u64,
-) -> Result<(List<Params>, usize), Unread>
+) -> Result<(BlockParameters, usize), Unread>
     requires stands { StandsForItem 15 scan.old held.now }
     requires at { at + length held.now < 2 ^ 64 }
     ensures stands { StandsForItem 15 scan.new held.now }

@@ -12,6 +12,7 @@ use super::kinds::unsigned;
 use super::maps::{Maps, Table, WholeMap, outer_map, read_entries};
 use super::putting::{leave_out, passed_over, put, put_some};
 use super::storage::{HintsMap, StorageMap};
+use crate::block_parameters::BlockParameters;
 use crate::preamble::Preamble;
 use crate::refusal::FileWhy;
 use cd_block::{Params, keys};
@@ -170,7 +171,7 @@ fn have_ticks(entries: &[Params]) -> bool
 
 // The block parameters of a preamble, if its version is known and the ticks are in their range.
 #[tactic(auto, using(crate::proofs::ParamsJudged::ticks_of_all))]
-fn judged(preamble: Preamble) -> Result<List<Params>, FileWhy>
+fn judged(preamble: Preamble) -> Result<BlockParameters, FileWhy>
     ensures { result ≡ head.judged_preamble preamble }
 {
     let Preamble { major, entries } = preamble;
@@ -178,7 +179,7 @@ fn judged(preamble: Preamble) -> Result<List<Params>, FileWhy>
         return Err(FileWhy::Version);
     }
     if have_ticks(entries.as_slice()) {
-        Ok(entries)
+        Ok(BlockParameters::new(entries))
     } else {
         Err(FileWhy::TimeRange)
     }
@@ -191,7 +192,7 @@ pub fn params_of(
     bytes: &[u8],
     depth: usize,
     at: usize,
-) -> Result<(List<Params>, usize), ItemFault>
+) -> Result<(BlockParameters, usize), ItemFault>
     requires { depth ≤ most_depth }
     ensures { ReadsItem (λ entries. entries) result depth bytes.now at head.read_params }
 {

@@ -33,8 +33,8 @@ parts-preserved-in-Entries c =
       placed = left.placed;
       scanned = left.scanned;
       ahead =
-          ahead_found _ _ c.parts.progress c.parts.known c.parts.at c.parts.count c.parts.start c.self.inside.bytes.items inv.ahead c.pass.new.self c.in-Ok.passed (found.Entries c.in-Entries.entries) c.rest-held.result.now c.entry_count-known-in-Entries.result c.parts.count
-          c.in-Entries.is c.rest-held.ensures (sym c.entry_count-known-in-Entries.ensures) (omega arith) passes;
+          ahead_found _ _ c.parts.progress c.parts.known c.parts.at c.parts.count c.parts.start c.self.inside.bytes.items inv.ahead c.pass.new.self c.in-Ok.passed (found.Entries c.in-Entries.entries) c.rest-held.result.now c.len-known-in-Entries.result c.parts.count
+          c.in-Entries.is c.rest-held.ensures (sym c.len-known-in-Entries.ensures) (omega arith) passes;
     }
 
 pub parts-preserved : goal.parts-preserved
