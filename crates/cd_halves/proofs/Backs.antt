@@ -1,18 +1,17 @@
 -- Questions and resource records, kept whole and rendered again.
-use Rattle.std.proofs.Common.{◌≡◌, ℕ, ◌%◌, ◌^◌, ◌<◌, Bool, true, false, cond, not, ◌&&◌, nat_eq, List, [], ◌∷◌, ◌++◌, map, length, drop, Option, Some, None, refl, sym, ap, ◌∙◌, mod-eq_of_lt, arith, inl, inr}
+use Rattle.std.proofs.Common.{◌≡◌, ℕ, ◌^◌, ◌<◌, Bool, true, false, cond, not, ◌&&◌, nat_eq, List, [], ◌∷◌, ◌++◌, map, length, drop, Some, None, refl, sym, ap, ◌∙◌, mod-eq_of_lt, arith, inl, inr}
 use Rattle.std.specs.Prelude.{slice_get, if◌then◌else◌}
 use Rattle.std.specs.List.{All, AllByRecursion, filter, find}
 use Rattle.std.proofs.lemmas.Bool.{cases_Bool, eqb-true}
 use Rattle.std.proofs.lemmas.List.Elements.{All-head, All-tail, All-filter, filter_passes}
 use Rattle.cd_block.specs.declared.kept.KeptQuestion.{KeptQuestion}
-use Rattle.cd_block.specs.declared.kept.KeptRr.{KeptRr}
 use Rattle.cd_hints.specs.Lists.{is_listed_record, kept_question, kept_rr, without_opt}
 use Rattle.cd_hints.specs.Settings.{default_hints}
 use Rattle.cd_message.specs.Valid.{is_opt}
 use Rattle.cd_message.specs.WrittenLaws.{RecordNumbersFit}
 use Rattle.cd_message.specs.declared.message.Question.{Question}
 use Rattle.cd_message.specs.declared.message.Rr.{Rr}
-use Rattle.cd_rebuild.specs.Messages.{is_rendered, question_of, record_of, records_of}
+use Rattle.cd_rebuild.specs.Messages.{question_of, record_of, records_of}
 use Rattle.cd_halves.specs.PlainHalves.{AllListed}
 
 -- questions come back

@@ -3,3 +3,4 @@ pub mod Told
 pub mod Backs
 pub mod QueryBack
 pub mod ResponseBack
+pub mod Spelled

@@ -1,7 +1,7 @@
 -- A plain query comes back.
-use Rattle.std.proofs.Common.{◌≡◌, ℕ, ◌+◌, ◌*◌, ◌/◌, ◌%◌, ◌^◌, ◌<◌, ◌≤◌, Bool, true, false, nat_eq, List, [], ◌∷◌, ◌++◌, map, length, drop, Option, Some, None, refl, sym, ap, ◌∙◌, subst, arith}
+use Rattle.std.proofs.Common.{◌≡◌, ℕ, ◌+◌, ◌*◌, ◌/◌, ◌%◌, ◌^◌, ◌<◌, Bool, true, false, nat_eq, List, [], ◌∷◌, ◌++◌, length, Option, Some, None, refl, sym, ap, ◌∙◌, subst, arith}
 use Rattle.std.specs.Prelude.{slice_get, if◌then◌else◌, unwrap_or, is_some, nat_le, option_and_then}
-use Rattle.std.specs.List.{All, find, filter}
+use Rattle.std.specs.List.{All, find}
 use Rattle.std.specs.Option.{option_map, option_map_or, option_or}
 use Rattle.std.proofs.lemmas.Bool.{eqb-true}
 use Rattle.cd_block.specs.declared.hints.Hints.{Hints}
@@ -12,9 +12,9 @@ use Rattle.cd_block.specs.declared.params.Params.{Params}
 use Rattle.cd_block.specs.declared.stamp.Stamp.{Stamp}
 use Rattle.cd_edns.specs.Opts.{opt_of_message, opt_of_record, full_rcode_of, ext_rcode_of, record_of_opt, with_opt}
 use Rattle.cd_edns.specs.declared.opt_record.Opt.{Opt}
-use Rattle.cd_hints.specs.Flags.{dns_flags, signature_flags, query_dns_flags, response_dns_flags, has_opt, has_no_question, is_dnssec_ok}
+use Rattle.cd_hints.specs.Flags.{signature_flags, query_dns_flags, response_dns_flags, has_opt, is_dnssec_ok}
 use Rattle.cd_hints.specs.Items.{first_question, lead_question, main_message, query_opt, kept_item, kept_signature}
-use Rattle.cd_hints.specs.Lists.{kept_question, kept_rr, query_lists, no_lists, is_listed_record, without_opt}
+use Rattle.cd_hints.specs.Lists.{query_lists, no_lists, without_opt}
 use Rattle.cd_hints.specs.Records.{RecordParts, pair, unmatched_query, unmatched_response, malformed, discarded, query_message, response_message}
 use Rattle.cd_hints.specs.Settings.{default_hints}
 use Rattle.cd_ident.specs.Headers.{opcode_of}
@@ -26,7 +26,7 @@ use Rattle.cd_message.specs.declared.message.Rr.{Rr}
 use Rattle.cd_message.specs.declared.message.TheConstants.{OPT}
 use Rattle.cd_rebuild.specs.Flags.{is_set}
 use Rattle.cd_rebuild.specs.Messages as rebuilt
-use Rattle.cd_halves.specs.PlainHalves.{KeepsAll, IsPlainQuery, QueriesComeBack}
+use Rattle.cd_halves.specs.PlainHalves.{IsPlainQuery, QueriesComeBack}
 use Rattle.cd_halves.proofs.Backs.{all_questions, plain_back, other_back, none_found, found_opt, at_last}
 use Rattle.cd_halves.proofs.Told.{opt_told, query_none_told}
 use Rattle.cd_halves.proofs.Words.{digit, digit_small, query_dns, response_dns, do_told, query_word, ttl_again}

@@ -1,5 +1,5 @@
 -- A plain response comes back.
-use Rattle.std.proofs.Common.{◌≡◌, ℕ, ◌+◌, ◌*◌, ◌/◌, ◌%◌, ◌^◌, ◌<◌, ◌≤◌, Bool, false, nat_eq, List, length, Option, Some, None, refl, sym, ap, ◌∙◌, subst, arith}
+use Rattle.std.proofs.Common.{◌≡◌, ◌+◌, ◌*◌, ◌/◌, ◌%◌, ◌<◌, false, nat_eq, length, Option, Some, None, sym, ap, ◌∙◌, subst, arith}
 use Rattle.std.specs.Prelude.{slice_get, unwrap_or}
 use Rattle.std.specs.Option.{option_map, option_map_or}
 use Rattle.cd_block.specs.declared.hints.Hints.{Hints}
@@ -23,7 +23,7 @@ use Rattle.cd_halves.specs.PlainHalves.{IsPlainResponse, ResponsesComeBack}
 use Rattle.cd_halves.proofs.Backs.{all_questions, plain_back}
 use Rattle.cd_halves.proofs.QueryBack.{message_by_fields, question_of_parts}
 use Rattle.cd_halves.proofs.Told.{response_none_told}
-use Rattle.cd_halves.proofs.Words.{digit, digit_small, query_dns, response_dns, response_word}
+use Rattle.cd_halves.proofs.Words.{digit_small, query_dns, response_dns, response_word}
 
 -- the flags of a query are below 256
 query_below : (q : Option Message) → option_map_or query_dns_flags q 0 < 256

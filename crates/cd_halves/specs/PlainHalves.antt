@@ -1,5 +1,5 @@
 -- Plain halves: messages of which all is kept, so that they are rebuilt as they were (RFC 8618 7.3.2.4).
-use Rattle.std.specs.Prelude.{◌≡◌, ℕ, ◌%◌, true, List, [], ◌∷◌, ◌++◌, Some}
+use Rattle.std.specs.Prelude.{◌≡◌, ℕ, ◌%◌, true, List, [], ◌∷◌, ◌++◌, length, Some}
 use Rattle.std.specs.List.{All, find}
 use Rattle.std.specs.Option.{option_map}
 use Rattle.cd_block.specs.declared.params.Params.{Params}
@@ -9,7 +9,9 @@ use Rattle.cd_hints.specs.Lists.{is_listed_record, without_opt}
 use Rattle.cd_hints.specs.Records.{RecordParts, query_message, response_message}
 use Rattle.cd_hints.specs.Settings.{default_hints}
 use Rattle.cd_ident.specs.Headers.{qr_of, opcode_of}
+use Rattle.cd_message.specs.Messages.{Spells}
 use Rattle.cd_message.specs.Valid.{Valid, is_opt}
+use Rattle.cd_message.specs.Written.{written_if_fits}
 use Rattle.cd_message.specs.WrittenLaws.{NumbersFit}
 use Rattle.cd_message.specs.declared.message.Message.{Message}
 use Rattle.cd_message.specs.declared.message.Question.{Question}
@@ -59,3 +61,17 @@ QueriesComeBack = (p : Params) (earliest : Stamp) (r : RecordParts) (m : Message
 abbrev pub ResponsesComeBack : Type 0
 ResponsesComeBack = (p : Params) (earliest : Stamp) (r : RecordParts) (m : Message) → KeepsAll p → response_message r ≡ Some m →
     IsPlainResponse p.rr_types r m → response_of (kept_item p earliest r) (kept_signature p r) ≡ m
+
+-- where the first message is written, the payload is read as the second one, to its last byte
+abbrev pub IsWrittenAs : Message → Message → Type 0
+IsWrittenAs made m = (payload : List ℕ) → written_if_fits made ≡ Some payload → Spells payload m (length payload)
+
+-- what is written of a plain query is read as its own message
+abbrev pub QueriesAreSpelled : Type 0
+QueriesAreSpelled = (p : Params) (earliest : Stamp) (r : RecordParts) (m : Message) → KeepsAll p → query_message r ≡ Some m →
+    IsPlainQuery p.rr_types m → IsWrittenAs (query_of (kept_item p earliest r) (kept_signature p r)) m
+
+-- what is written of a plain response that is valid is read as its own message
+abbrev pub ResponsesAreSpelled : Type 0
+ResponsesAreSpelled = (p : Params) (earliest : Stamp) (r : RecordParts) (m : Message) → KeepsAll p → response_message r ≡ Some m →
+    IsPlainResponse p.rr_types r m → Valid m → IsWrittenAs (response_of (kept_item p earliest r) (kept_signature p r)) m

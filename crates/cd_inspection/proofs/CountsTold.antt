@@ -13,7 +13,7 @@ use Rattle.cd_inspection.specs.ReadCounting.{held_in_64, counting, counts_with_b
 use Rattle.cd_inspection.specs.declared.counting.ReadCounts.{ReadCounts}
 
 -- an element that is there
-there : {A : Type 0} (xs : List A) (k : ℕ) → k < length xs → (x : A) × (slice_get xs k ≡ Some x)
+pub there : {A : Type 0} (xs : List A) (k : ℕ) → k < length xs → (x : A) × (slice_get xs k ≡ Some x)
 there [] k few = absurd omega (arith, few)
 there (x ∷ xs) zero few = (x, refl)
 there (x ∷ xs) (suc k) few = there xs k (omega (arith, few))
@@ -25,10 +25,10 @@ counted None k so_far has = absurd has
 counted (Some entries) k so_far has = let p = there entries k.params has in rw p.1 refl
 
 -- a count of at most 64 bits grows
-grown : (n x rest sum total : ℕ) → sum ≡ x + rest → n + sum ≡ total → total < 2 ^ 64 → held_in_64 (n + x) + rest ≡ total
+pub grown : (n x rest sum total : ℕ) → sum ≡ x + rest → n + sum ≡ total → total < 2 ^ 64 → held_in_64 (n + x) + rest ≡ total
 grown n x rest sum total parts all few = omega (arith, parts, all, few)
 
-none_more : (n total : ℕ) → n + 0 ≡ total → n ≡ total
+pub none_more : (n total : ℕ) → n + 0 ≡ total → n ≡ total
 none_more n total all = omega (arith, all)
 
 -- these are the counts, and then some blocks

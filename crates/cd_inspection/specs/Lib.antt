@@ -4,3 +4,4 @@ pub mod Growing
 pub mod Lawful
 pub mod Standing
 pub mod ReadCounting
+pub mod Rebuilding

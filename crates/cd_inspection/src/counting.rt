@@ -38,7 +38,7 @@ pub(crate) const NO_READ_COUNTS: ReadCounts = ReadCounts {
 };
 
 // The counts with one block more.
-fn counts_with(counts: ReadCounts, kept: &KeptBlock) -> ReadCounts
+pub(crate) fn counts_with(counts: ReadCounts, kept: &KeptBlock) -> ReadCounts
     ensures { result ≡ counts_with_block kept.now counts }
 {
     let mut counts = counts;

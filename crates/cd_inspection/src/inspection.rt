@@ -1,6 +1,7 @@
 //! The machine that reads a C-DNS file in chunks and inspects each block.
 
 ghost use Rattle.std.specs.Prelude.{◌≡◌, ℕ, ◌+◌, ◌<◌, ◌≤◌, ◌^◌, false, true, [], ◌++◌, List, length, None, IfOk, OnOk, option_map};
+ghost use Rattle.std.specs.Option.{IfSome};
 ghost use Rattle.cd_block.specs.declared.block.Block.{Block};
 ghost use Rattle.cd_inspection.specs.Inspecting.{Inspected, with_block};
 ghost use Rattle.cd_inspection.specs.Standing.{InspectionStands, Course, HasTaken, TakesBlock, refusal_for, told_refusal};
@@ -71,6 +72,8 @@ fn inspect_with<I: Inspector>(
     counts: I::Counts,
     out: &mut Out,
 ) -> Result<I::Counts, AllocError>
+    requires least { IfSome params (λ p. 0 < p.now.ticks) }
+    requires most { IfSome params (λ p. p.now.ticks ≤ 1000000000) }
     ensures { IfOk result (λ c. ◌≡◌ {A = Inspected I.Counts} (record { bytes = out.new; counts = c })
         (with_block I.rendering kept.now (record { bytes = out.old; counts = counts }) (option_map (λ p. p.now) params.entry))) }
 {

@@ -1,6 +1,6 @@
 //! What an inspection does with each block.
 
-ghost use Rattle.std.specs.Prelude.{◌≡◌, ◌++◌, OnOk, IfOk};
+ghost use Rattle.std.specs.Prelude.{◌≡◌, ◌<◌, ◌≤◌, ◌++◌, OnOk, IfOk};
 
 use cd_block::{KeptBlock, Params};
 use cd_bytes::Out;
@@ -24,7 +24,8 @@ pub trait Inspector {
     fn no_counts() -> Self::Counts
         ensures { result ≡ rendering.no_counts };
 
-    /// Writes a block, and gives the counts with it.
+    /// Writes a block, and gives the counts with it. A second has 1 to 1,000,000,000 ticks by these parameters (RFC 8618
+    /// 7.3.1.1.1).
     fn inspect(
         alloc: Global,
         kept: &KeptBlock,
@@ -32,6 +33,8 @@ pub trait Inspector {
         counts: Self::Counts,
         out: &mut Out,
     ) -> Result<Self::Counts, AllocError>
+        requires least { 0 < params.now.ticks }
+        requires most { params.now.ticks ≤ 1000000000 }
         ensures bytes { OnOk result (out.new ≡ out.old ++ rendering.bytes_of params.now kept.now) }
         ensures counts { IfOk result (λ c. c ≡ rendering.counts_with params.now kept.now counts) };
 }
