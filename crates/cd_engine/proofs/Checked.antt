@@ -12,11 +12,11 @@ use Rattle.cd_inspection.specs.declared.counting.ReadCounts.{ReadCounts}
 use Rattle.cd_ports.specs.Reading.{SourceMeaning}
 use Rattle.cd_ports.specs.Writing.{SinkMeaning}
 use Rattle.cd_ports.specs.declared.sink.SinkFault.{SinkFault}
-use Rattle.cd_engine.specs.Checking.{AreReadCountsOf, ChecksTaken, Checks, ChecksTold}
+use Rattle.cd_engine.specs.Checking.{judging_files, AreReadCountsOf, ChecksTaken, Checks, ChecksTold}
 use Rattle.cd_engine.specs.Endings.{ended_of}
 use Rattle.cd_engine.specs.declared.ended.Ended.{Ended}
 use Rattle.cd_engine.specs.declared.ended.Ended.TheVariants as ended
-use Rattle.cd_engine.proofs.RunsEnd.{AreRefusals, ended_stop, reads_on, goes_on, consumes_none, none_taken}
+use Rattle.cd_engine.proofs.RunsEnd.{AreRefusals, ended_stop, reads_on, goes_on, consumes_none, none_taken, stops_unasked}
 
 -- how a check ends by a refusal
 abbrev pub ended_bad : BadFile → Ended
@@ -62,16 +62,7 @@ told_driven law max small so sn ko kn r h = λ taken is. checks_on law max small
 -- where memory runs out before the first read, nothing was taken
 nothing_taken : (max : ℕ) (so : SourceMeaning) → ChecksTaken max so so (ended.NoMemory, no_read_counts) []
 nothing_taken max so = record {
-  stops = record {
-    before = [];
-    last = [];
-    split = refl;
-    chunk = omega arith;
-    undecided = nothing_unrefused;
-    within = omega arith;
-    few = omega arith;
-    calls = omega arith;
-  };
+  stops = stops_unasked judging_files nothing_unrefused max so;
   ending = inr tt;
   counts = refl;
 }

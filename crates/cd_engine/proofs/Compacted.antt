@@ -1,11 +1,7 @@
 -- What a compaction answers, by what a drive answers.
-use Rattle.std.proofs.Common.{◌≡◌, ℕ, ◌-◌, ◌<◌, Bool, true, false, List, [], length, take, Option, Some, None, Result, Ok, Err, refl, ap, sym, ◌∙◌, arith, inl, inr, subst, ◌⊎◌}
-use Rattle.std.specs.Prelude.{◌||◌}
+use Rattle.std.proofs.Common.{◌≡◌, ℕ, ◌-◌, ◌<◌, List, [], length, take, Result, Ok, Err, refl, ap, sym, ◌∙◌, arith, inl, inr, subst}
 use Rattle.std.specs.Io.KnownBytes.{Appends}
-use Rattle.std.proofs.lemmas.Bool.{false≢true}
-use Rattle.std.proofs.lemmas.List.{append-nil}
-use Rattle.cd_drive.specs.Behaviors.{Behavior}
-use Rattle.cd_drive.specs.Driving.{AppendsMore, Drives, DrivesOn, DrivesTold, IsAccepted, IsDone}
+use Rattle.cd_drive.specs.Driving.{AppendsMore, Drives, DrivesOn, DrivesTold, IsAccepted}
 use Rattle.cd_drive.specs.declared.driving.Driven.{Driven}
 use Rattle.cd_drive.specs.declared.driving.Stop.{Stop}
 use Rattle.cd_hints.specs.Validity.{IsValid}
@@ -16,16 +12,17 @@ use Rattle.cd_ports.specs.Writing.{SinkMeaning, AppendsPrefix}
 use Rattle.cd_ports.specs.declared.sink.SinkFault.{SinkFault}
 use Rattle.cd_ports.specs.declared.sink.SinkFault.TheVariants as fault
 use Rattle.cd_engine.specs.Behaving.{compacting}
-use Rattle.cd_engine.specs.Compacting.{Writes, Tells, used_bytes, CompactsTaken, Compacts, CompactsTold, WriteOutranks, IsServedCapture}
+use Rattle.cd_engine.specs.Compacting.{Tells, used_bytes, CompactsTaken, Compacts, CompactsTold, IsServedCapture}
 use Rattle.cd_engine.specs.Compactions.{IsClosedPartOf}
 use Rattle.cd_engine.specs.Counting.{AreCountsOf, no_counts}
-use Rattle.cd_engine.specs.Endings.{ended_of}
+use Rattle.cd_engine.specs.Endings.{ended_of, judging_captures}
 use Rattle.cd_engine.specs.declared.counts.Counts.{Counts}
 use Rattle.cd_engine.specs.declared.ended.Ended.{Ended}
 use Rattle.cd_engine.specs.declared.ended.Ended.TheVariants as ended
 use Rattle.cd_engine.proofs.OneFile.{file_is_whole, front_is_closed_part, counts_hold}
 use Rattle.cd_engine.proofs.Refusing.{served_unrefused}
-use Rattle.cd_engine.proofs.RunsEnd.{AreRefusals, ended_stop, reads_on, goes_on, consumes_none, none_taken}
+use Rattle.cd_engine.proofs.RunsEnd.{AreRefusals, ended_stop, reads_on, goes_on, consumes_none, none_taken, stops_unasked}
+use Rattle.cd_engine.proofs.Written.{answer_of as answer_by, writes_at, appends_none}
 use Rattle.cd_engine.specs.CapturesGo.{nothing_unrefused}
 
 -- how a compaction ends by a refusal
@@ -40,15 +37,9 @@ are_refusals bad = tt
 tells_at : (s : Settings) (bytes : List ℕ) (e : Stop BadCapture) (counts : Counts) → AreCountsOf s bytes counts → Tells s bytes (ended_of ended_bad e) counts
 tells_at s bytes e counts h = goes_on ended_bad are_refusals (counts ≡ no_counts) (AreCountsOf s bytes counts) e h
 
--- the file is written
-writes_at : (old new : SinkMeaning) (e : Stop BadCapture) (bytes : List ℕ) → Appends old.contents new.contents bytes → Writes old new (ended_of ended_bad e) bytes
-writes_at old new e bytes h = goes_on ended_bad are_refusals (AppendsPrefix old.contents new.contents bytes) (Appends old.contents new.contents bytes) e h
-
 -- how a drive ends a compaction, with what counts
 abbrev pub answer_of : Result (Driven BadCapture Counts) SinkFault → Ended × Counts
-answer_of (Ok driven) = (ended_of ended_bad driven.stop, driven.counts)
-answer_of (Err fault.Failed) = (ended.WriteFault, no_counts)
-answer_of (Err fault.NoMemory) = (ended.NoMemory, no_counts)
+answer_of r = answer_by ended_bad no_counts r
 
 -- what was closed early was written
 early_on : (s : Settings) (so sn : SourceMeaning) (ko kn : SinkMeaning) (r : Result (Driven BadCapture Counts) SinkFault)
@@ -69,7 +60,7 @@ compacts_on s valid so sn ko kn (Ok driven) taken h =
       stops = reads_on (compacting s) ended_bad s.max_input so sn ko kn taken h.reads;
       ending = inl (ap (ended_of ended_bad) h.stop ∙ ended_stop (compacting s) ended_bad s.max_input taken sn.ended);
       counts = tells_at s used driven.stop driven.counts (subst P (sym h.counts) (counts_hold s used valid));
-      file = λ file is. writes_at ko kn driven.stop file (subst Q (sym (file_is_whole s used file is)) h.output.bytes);
+      file = λ file is. writes_at ended_bad are_refusals ko kn driven.stop file (subst Q (sym (file_is_whole s used file is)) h.output.bytes);
       early = λ many front is. early_on s so sn ko kn (Ok driven) taken h many front is;
     }
 compacts_on s valid so sn ko kn (Err fault.Failed) taken h =
@@ -99,55 +90,21 @@ pub told_driven : (s : Settings) → IsValid s → (so sn : SourceMeaning) (ko k
     DrivesTold (compacting s) s.max_input so sn ko kn r → CompactsTold s so sn ko kn (answer_of r)
 told_driven s valid so sn ko kn r h = λ taken is. compacts_on s valid so sn ko kn r taken (h taken is)
 
--- a write that did not fail is no failure
-no_failure : (before after : Bool) → after ≡ (before || false) → before ≡ false → after ≡ true → ⊥
-no_failure true after e sound failed = absurd cc
-no_failure false after e sound failed = false≢true (sym e ∙ failed)
-
--- a fault of the sink outranks all but want of memory
-pub outranks_driven : (b : Behavior BadCapture Counts) (max : ℕ) (so sn : SourceMeaning) (ko kn : SinkMeaning) (r : Result (Driven BadCapture Counts) SinkFault) →
-    Drives b max so sn ko kn r → WriteOutranks ko kn (answer_of r).0
-outranks_driven b max so sn ko kn (Ok driven) h = record {
-  failed = λ sound failed. absurd (no_failure ko.failed kn.failed h.2.output.failed sound failed);
-  refused = λ sound refused. absurd (false≢true (h.2.output.refused sound refused));
-}
-outranks_driven b max so sn ko kn (Err fault.Failed) h = record { failed = λ _ _. tt; refused = λ _ _. tt }
-outranks_driven b max so sn ko kn (Err fault.NoMemory) h = record { failed = λ _ _. tt; refused = λ _ _. tt }
-
 -- a capture that can be compacted is accepted
 pub served_accepted : (s : Settings) (bytes : List ℕ) → IsServedCapture s bytes → IsAccepted (compacting s) s.max_input bytes
 served_accepted s bytes h =
     let k = served_unrefused bytes h.end in
     record { few = h.few; taken = k.now; ended = k.at_end }
 
--- a drive that is done is a compaction that is
-pub done_driven : (r : Result (Driven BadCapture Counts) SinkFault) → IsDone r → ((answer_of r).0 ≡ ended.Done) ⊎ ((answer_of r).0 ≡ ended.NoMemory)
-done_driven (Ok driven) h = inl (ap (ended_of ended_bad) h)
-done_driven (Err fault.Failed) h = absurd cc
-done_driven (Err fault.NoMemory) h = inr refl
-
 -- where memory runs out before the first read, nothing was taken
 nothing_taken : (s : Settings) (so : SourceMeaning) (ko : SinkMeaning) → CompactsTaken s so so ko ko (ended.NoMemory, no_counts) []
 nothing_taken s so ko = record {
-  stops = record {
-    before = [];
-    last = [];
-    split = refl;
-    chunk = omega arith;
-    undecided = nothing_unrefused;
-    within = omega arith;
-    few = omega arith;
-    calls = omega arith;
-  };
+  stops = stops_unasked judging_captures nothing_unrefused s.max_input so;
   ending = inr tt;
   counts = refl;
   file = λ file is. appends_none ko.contents file;
   early = λ many front is. absurd (omega (arith, many));
 }
-  where
-    appends_none : (o : Option (List ℕ)) (bytes : List ℕ) → AppendsPrefix o o bytes
-    appends_none None bytes = tt
-    appends_none (Some xs) bytes = (0, sym (append-nil xs))
 
 pub unread : (s : Settings) (so : SourceMeaning) (ko : SinkMeaning) → Compacts s so so ko ko (ended.NoMemory, no_counts)
 unread s so ko = ([], consumes_none so.left, nothing_taken s so ko)

@@ -31,7 +31,7 @@ use Rattle.cd_size.proofs.EventRanges.{events_in_range}
 use Rattle.cd_size.proofs.EventTimes.{events_timed}
 use Rattle.cd_size.proofs.NamesKept.{blocks_named}
 use Rattle.cd_size.proofs.RunsReadable.{blocks_readable}
-use Rattle.cd_engine.specs.Compactions.{blocks_of, but_last}
+use Rattle.cd_engine.specs.Compactions.{Compaction, blocks_of, but_last}
 use Rattle.cd_engine.specs.Events.{rules_of, event_found, event_of, events_of}
 use Rattle.cd_engine.specs.ReadBack.{ParamsInRange, FilesAreReadBack, FilesAreKept, ClosedPartsAreReadBack}
 use Rattle.cd_engine.specs.Records.{records_at}
@@ -172,16 +172,20 @@ runs_resolved p [] range = tt
 runs_resolved p (run ∷ runs) range =
     (indexed_resolves (kept_block p run) (blocks_named p run range.0), runs_resolved p runs range.1)
 
+-- the records of each run of a capture of bytes are in range
+pub runs_in_range : (s : Settings) (bytes : List ℕ) (c : Compaction s (compacted_events (rules_of s) bytes)) → AreBytes bytes →
+    AllByRecursion (λ run. All RecordInRange run) c.runs
+runs_in_range s bytes c all =
+    let es : List EventParts = compacted_events (rules_of s) bytes in
+    of_runs RecordInRange _ c.runs c.cut.whole (of_records EventInRange es _ (all_first es (compacted_kept (rules_of s) bytes all)))
+
 -- the law of files with each value in its place
 pub files_kept : FilesAreKept
 files_kept s bytes file valid range all is =
-    let es : List EventParts = compacted_events (rules_of s) bytes in
-    let kept = compacted_kept (rules_of s) bytes all in
     let runs : List (List RecordParts) = is.compaction.runs in
-    let ranges = of_runs RecordInRange _ runs is.compaction.cut.whole (of_records EventInRange es _ (all_first es kept)) in
     ap kept_file is.same
     ∙ file_is_kept s.params (blocks_of s.params runs) (map (kept_block s.params) runs) (params_readable s valid range)
-    (blocks_readable_of s bytes _ runs valid all is.compaction.cut) (runs_resolved s.params runs ranges)
+    (blocks_readable_of s bytes _ runs valid all is.compaction.cut) (runs_resolved s.params runs (runs_in_range s bytes is.compaction all))
 
 -- the first of some blocks
 first_readable : (p : Params) (n : ℕ) (runs : List (List RecordParts)) → AllByRecursion ReadableBlock (blocks_of p runs) →

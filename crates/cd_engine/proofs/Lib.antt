@@ -16,8 +16,10 @@ pub mod Refusing
 pub mod Taking
 pub mod Closing
 pub mod RunsEnd
+pub mod Written
 pub mod Compacted
 pub mod Checked
+pub mod Inspected
 pub mod EventsHave
 pub mod PcapBytes
 pub mod PcapngBytes
@@ -25,3 +27,5 @@ pub mod PacketBytes
 pub mod EachPacketCounted
 pub mod ItemsAndPairs
 pub mod FilesReadBack
+pub mod Projected
+pub mod HalvesBack

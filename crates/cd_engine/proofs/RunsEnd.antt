@@ -1,5 +1,5 @@
 -- What a compaction or a check answers, by what a drive answers.
-use Rattle.std.proofs.Common.{◌≡◌, ℕ, Bool, true, false, cond, List, [], ◌++◌, length, take, Option, Some, None, refl, ap, sym, ◌∙◌, subst}
+use Rattle.std.proofs.Common.{◌≡◌, ℕ, Bool, true, false, cond, List, [], ◌++◌, length, take, Option, Some, None, refl, ap, sym, ◌∙◌, subst, arith}
 use Rattle.std.specs.Prelude.{nat_lt, ⊤}
 use Rattle.std.specs.Io.KnownBytes.{Consumes}
 use Rattle.std.proofs.lemmas.List.{append_cancel_right}
@@ -55,6 +55,19 @@ reads_on b f max so sn ko kn taken r = record {
   within = r.within;
   few = r.few;
   calls = r.calls;
+}
+
+-- a source that was not asked was read in time
+pub stops_unasked : {R : Type 0} (judging : Judging R) → judging.refused [] ≡ None → (max : ℕ) (so : SourceMeaning) → StopsInTime judging max so so []
+stops_unasked judging begins max so = record {
+  before = [];
+  last = [];
+  split = refl;
+  chunk = omega arith;
+  undecided = begins;
+  within = omega arith;
+  few = omega arith;
+  calls = omega arith;
 }
 
 -- bytes are refused so

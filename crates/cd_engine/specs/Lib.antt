@@ -6,6 +6,7 @@ pub mod Counting
 pub mod Endings
 pub mod Compacting
 pub mod Checking
+pub mod Inspecting
 pub mod Laws
 pub mod Behaving
 pub mod Filing
@@ -17,3 +18,5 @@ pub mod RecordsGo
 pub mod CutsGo
 pub mod Lawful
 pub mod ReadBack
+pub mod Projecting
+pub mod HalvesComeBack

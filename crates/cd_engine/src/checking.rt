@@ -14,8 +14,8 @@ use cd_inspection::{BlockCounting, Inspection, Inspector, ReadCounts};
 use cd_ports::Source;
 use std::alloc::Global;
 
-// How a check ends by what ended the input.
-fn ended_of(stop: Stop<BadFile>) -> Ended
+/// How a check or an inspection ends by what ended the input.
+pub(crate) fn ended_of(stop: Stop<BadFile>) -> Ended
     ensures { result ≡ ended_of judging_files.ended_for stop }
 {
     match stop {

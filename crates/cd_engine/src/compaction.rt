@@ -6,10 +6,12 @@ ghost use Rattle.cd_hints.specs.Validity.{IsValid};
 ghost use Rattle.cd_ports.specs.Counter.{Rose};
 ghost use Rattle.cd_engine.specs.Compacting.{Compacts, CompactsTold, WriteOutranks, IsServedCapture};
 ghost use Rattle.cd_engine.specs.Endings.{judging_captures, ended_of, IsStopped, EndsAs};
+ghost use Rattle.cd_engine.specs.HalvesComeBack.{PlainHalvesComeBack};
 
 use crate::compactor::Compactor;
 use crate::counts::{Counts, no_counts};
 use crate::ended::Ended;
+use crate::laws::plain_halves_come_back;
 use cd_drive::{Driven, Stop, drive};
 use cd_hints::Settings;
 use cd_packet::BadCapture;
@@ -47,6 +49,9 @@ pub fn compact_plain<S: Source, K: Sink>(
     ensures told { CompactsTold settings.now (S.means src.old) (S.means src.new) (K.means out.old) (K.means out.new)
         result }
 
+    // Each plain half of a record comes back from the file, where every supported hint is set.
+    ensures plain { PlainHalvesComeBack settings.now }
+
     // Done comes only where the source told its end, and nothing is left then.
     ensures done { result.0 ≡ Ended.Done → (S.means src.new).ended ≡ true }
     ensures at_end { ¬ IsStopped result.0 → (S.means src.new).ended ≡ true → IsAtEnd (S.means src.new).left }
@@ -68,6 +73,7 @@ pub fn compact_plain<S: Source, K: Sink>(
         ¬ Rose (K.means out.old).faults (K.means out.new).faults →
         (result.0 ≡ Ended.Done) ⊎ (result.0 ≡ Ended.NoMemory) }
 {
+    plain_halves_come_back();
     let machine = match Compactor::new(alloc, settings) {
         Ok(machine) => machine,
         Err(_) => return (Ended::NoMemory, no_counts()),

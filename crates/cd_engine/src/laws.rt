@@ -2,6 +2,8 @@
 
 ghost use Rattle.cd_engine.specs.Laws.{EachCaptureHasOneFile, EachCaptureHasOneClosedPart, EachCaptureHasOneCounts};
 ghost use Rattle.cd_engine.specs.Laws.{EventsAreLinear, EventsAreLight, EachPacketIsCounted, MessagesAreItemsAndPairs};
+ghost use Rattle.cd_engine.specs.HalvesComeBack.{EachPlainHalfComesBack};
+ghost use Rattle.cd_engine.specs.Projecting.{WhatIsKeptIsRebuilt, WhatIsKeptIsCounted};
 ghost use Rattle.cd_engine.specs.ReadBack.{FilesAreReadBack, FilesAreKept, ClosedPartsAreReadBack};
 
 /// A law: each capture has exactly one file, under each valid settings. It does nothing.
@@ -50,4 +52,17 @@ pub fn files_are_read_back()
     ensures files { FilesAreReadBack }
     ensures kept { FilesAreKept }
     ensures closed_parts { ClosedPartsAreReadBack }
+{}
+
+/// A law: under valid settings, of the file of a capture of bytes the capture of what is kept of the runs is rebuilt, and
+/// its counts are those of what is kept. It does nothing.
+pub fn what_is_kept_is_rebuilt()
+    ensures capture { WhatIsKeptIsRebuilt }
+    ensures counts { WhatIsKeptIsCounted }
+{}
+
+/// A law: where every supported hint is set, each plain half of each record of a run comes back from the item that is kept
+/// of it, and its payload is read as its own message. It does nothing.
+pub fn plain_halves_come_back()
+    ensures { EachPlainHalfComesBack }
 {}

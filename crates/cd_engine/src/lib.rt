@@ -1,4 +1,5 @@
-//! From a capture to its C-DNS file (RFC 8618), `compact_plain`, and whether a file is one, `check`.
+//! From a capture to its C-DNS file (RFC 8618), `compact_plain`, whether a file is one, `check`, and from a file to the
+//! capture that is rebuilt of it, `inspect`.
 //!
 //! - A *capture*, a pcap or a pcapng, comes from a source in chunks. Each packet that holds a datagram from or to the port
 //!   of DNS is an *event*; each other one is *skipped* for one of nine reasons, and counted.
@@ -9,7 +10,8 @@
 //!
 //! The way of the data: bytes and packets (`cd_capture`), their events (`event_making`), their records (`blocks`), runs and
 //! blocks (`filing`), the machine of all of them (`compactor`), driven from a source to a sink (`compaction`).
-//! A check drives the machine of `cd_inspection`, which counts the blocks of a file (`checking`).
+//! A check and an inspection drive the machine of `cd_inspection`: it counts the blocks of a file (`checking`), or rebuilds
+//! their packets too (`inspecting`).
 //!
 //! Example: a query and its response 20 ms later are one record. Its run is closed at the end of the capture, and the
 //! file holds one block with one item.
@@ -23,6 +25,7 @@ mod counts;
 mod ended;
 mod event_making;
 mod filing;
+mod inspecting;
 pub mod laws;
 mod settings_copy;
 
@@ -31,3 +34,4 @@ pub use checking::check;
 pub use compaction::compact_plain;
 pub use counts::Counts;
 pub use ended::Ended;
+pub use inspecting::inspect;
