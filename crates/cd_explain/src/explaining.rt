@@ -39,7 +39,7 @@ fn settings_of(alloc: Global, options: &[Blob]) -> Result<Settings, Ended>
     let words = command_line(alloc, options)?;
     match read_words(alloc, &words) {
         Ok(Command::Compact(settings)) => Ok(settings),
-        Ok(Command::Check { .. }) | Err(WordsFault::Usage { .. }) => Err(Ended::Usage),
+        Ok(_) | Err(WordsFault::Usage { .. }) => Err(Ended::Usage),
         Err(WordsFault::NoMemory) => Err(Ended::NoMemory),
     }
 }

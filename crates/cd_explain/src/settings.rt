@@ -4,7 +4,7 @@ use crate::text::{put_field, put_optional};
 use cd_block::{Hints, Params};
 use cd_hints::Settings;
 use cd_name::Blob;
-use cd_words::{Command, WordsFault, read_words};
+use cd_words::{Command, DrillSettings, WordsFault, read_words};
 use std::alloc::{AllocError, Global};
 use std::fmt::Write;
 
@@ -83,6 +83,12 @@ fn put_settings(text: &mut String, settings: &Settings) -> Result<(), AllocError
     put_field(text, "max-input", &settings.max_input)
 }
 
+fn put_drill(text: &mut String, settings: &DrillSettings) -> Result<(), AllocError> {
+    put_field(text, "count", &settings.count)?;
+    put_field(text, "seed", &settings.seed)?;
+    put_field(text, "workers", &settings.workers)
+}
+
 /// What the words of a command line say: a command and its settings, or the place of the word that breaks a rule.
 pub fn explain_words(alloc: Global, text: &mut String, words: &[Blob]) -> Result<(), AllocError> {
     match read_words(alloc, words) {
@@ -93,6 +99,14 @@ pub fn explain_words(alloc: Global, text: &mut String, words: &[Blob]) -> Result
         Ok(Command::Check { max_input }) => {
             text.push_str("check\n")?;
             put_field(text, "max-input", &max_input)
+        }
+        Ok(Command::Inspect { max_input }) => {
+            text.push_str("inspect\n")?;
+            put_field(text, "max-input", &max_input)
+        }
+        Ok(Command::Drill(settings)) => {
+            text.push_str("drill\n")?;
+            put_drill(text, &settings)
         }
         Err(WordsFault::Usage { place }) => writeln!(text, "usage {place}"),
         Err(WordsFault::NoMemory) => Err(AllocError),

@@ -6,12 +6,14 @@ mod Places
 mod Lines
 mod ValidParts
 mod OptionNames
-mod CheckNames
+mod ReadingNames
+mod DrillNames
 mod Decimal
 mod LineOrBreak
 mod SaysOrNot
 mod OptionValues
 mod ValidNumbers
+mod ValidDrill
 mod ValidLines
 mod ValidCommands
 mod Commands

@@ -4,8 +4,8 @@ use Rattle.std.specs.Str.{bytes_eq}
 use Rattle.std.proofs.lemmas.Bool.{false≢true, ltb-true, ltb-false}
 use Rattle.std.proofs.lemmas.List.{length-take-le, take_all}
 use Rattle.std.proofs.lemmas.Slice.Eq.{bytes_eq-Decides}
-use Rattle.cd_words.specs.CommandLines.{Language, word_at, HasCommand, IsNamedBefore, NamesOption, SaysValue, IsCommandLine, BreaksAt}
-use Rattle.cd_words.specs.CommandLines.BreaksAt.{no_command, no_name, no_value}
+use Rattle.cd_words.specs.CommandLines.{Language, word_at, HasCommand, IsNamedBefore, NamesOption, SaysValue, HasOptions, BreaksAt}
+use Rattle.cd_words.specs.CommandLines.BreaksAt.{no_name, no_value}
 use Rattle.cd_words.proofs.Places.{first_name, second_name}
 use Rattle.cd_words.proofs.Lines.{name_of_front, value_of_front, first_line, line_more, missing_value}
 
@@ -13,23 +13,21 @@ use Rattle.cd_words.proofs.Lines.{name_of_front, value_of_front, first_line, lin
 pub record BreaksItOnce {C S : Type 0} (language : Language C S) (words : List (List ℕ)) (place : ℕ) : Type 0 where
   pub here : BreaksAt language words place
   pub only : (other : ℕ) → BreaksAt language words other → other ≡ place
-  pub outside : ¬ (IsCommandLine language words)
+  pub outside : ¬ (HasOptions language words)
 
 -- words are a command line of a language and break no rule of it, or break one at exactly one place and are none
 abbrev pub LineOrBreak : {C S : Type 0} → Language C S → List (List ℕ) → Type 0
-LineOrBreak language words = (IsCommandLine language words × ((place : ℕ) → ¬ (BreaksAt language words place))) ⊎ ((place : ℕ) × BreaksItOnce language words place)
+LineOrBreak language words = (HasOptions language words × ((place : ℕ) → ¬ (BreaksAt language words place))) ⊎ ((place : ℕ) × BreaksItOnce language words place)
 
 -- ---- one place
 
 -- a command line breaks no rule
-no_break : {C S : Type 0} (language : Language C S) (words : List (List ℕ)) (place : ℕ) → IsCommandLine language words → BreaksAt language words place → ⊥
-no_break language words _ line (no_command other) = other line.command
+no_break : {C S : Type 0} (language : Language C S) (words : List (List ℕ)) (place : ℕ) → HasOptions language words → BreaksAt language words place → ⊥
 no_break language words _ line (no_name k below before other) = other (line.name k below)
 no_break language words _ line (no_value k below before name other) = other (line.value k below)
 
 -- nor does any word in a front that is one
-no_break_in_front : {C S : Type 0} (language : Language C S) (words : List (List ℕ)) (n place : ℕ) → n ≤ length words → place < n → IsCommandLine language (take n words) → BreaksAt language words place → ⊥
-no_break_in_front language words n _ within below line (no_command other) = other (omega arith, sym (get_or-take n words 0 [] below) ∙ line.command.1)
+no_break_in_front : {C S : Type 0} (language : Language C S) (words : List (List ℕ)) (n place : ℕ) → n ≤ length words → place < n → HasOptions language (take n words) → BreaksAt language words place → ⊥
 no_break_in_front language words n _ within below line (no_name k there before other) =
     other (name_of_front language words n (2 * k + 1) below (line.name k (omega (arith, length-take-le n words within))))
 no_break_in_front language words n _ within below line (no_value k there before name other) =
@@ -37,13 +35,11 @@ no_break_in_front language words n _ within below line (no_value k there before 
 
 -- nor does a word that is a name
 no_break_at_name : {C S : Type 0} (language : Language C S) (words : List (List ℕ)) (place k : ℕ) → place ≡ 2 * k + 1 → NamesOption language words place → BreaksAt language words place → ⊥
-no_break_at_name language words _ k odd names (no_command other) = omega arith
 no_break_at_name language words _ k odd names (no_name j there before other) = other names
 no_break_at_name language words _ k odd names (no_value j there before name other) = omega arith
 
 -- no rule is broken before another
 not_before : {C S : Type 0} (language : Language C S) (words : List (List ℕ)) (first second : ℕ) → BreaksAt language words first → first < second → BreaksAt language words second → ⊥
-not_before language words first _ breaks before (no_command other) = omega arith
 not_before language words first _ breaks before (no_name k there line other) = no_break_in_front language words (2 * k + 1) first (omega arith) before line breaks
 not_before language words first _ breaks before (no_value k there line name other) = by (ltb first (2 * k + 1)) refl
   where
@@ -131,19 +127,19 @@ value_or_not {C} language decided words place = by (ltb (place + 1) (length word
 
 -- words are a command line or break a rule
 abbrev Judged : {C S : Type 0} → Language C S → List (List ℕ) → Type 0
-Judged language words = IsCommandLine language words ⊎ ((place : ℕ) × BreaksAt language words place)
+Judged language words = HasOptions language words ⊎ ((place : ℕ) × BreaksAt language words place)
 
 -- a front that is a command line is all, or a rule is broken after it, or it goes on by an option and its value
 abbrev Longer : {C S : Type 0} → Language C S → List (List ℕ) → ℕ → Type 0
-Longer language words k = (2 * k + 1 ≤ length words) × IsCommandLine language (take (2 * k + 1) words)
+Longer language words k = (2 * k + 1 ≤ length words) × HasOptions language (take (2 * k + 1) words)
 
-all_or_longer : {C S : Type 0} (language : Language C S) → IsDecided language → (words : List (List ℕ)) (k : ℕ) → 2 * k + 1 ≤ length words → IsCommandLine language (take (2 * k + 1) words) → Judged language words ⊎ Longer language words (k + 1)
+all_or_longer : {C S : Type 0} (language : Language C S) → IsDecided language → (words : List (List ℕ)) (k : ℕ) → 2 * k + 1 ≤ length words → HasOptions language (take (2 * k + 1) words) → Judged language words ⊎ Longer language words (k + 1)
 all_or_longer language decided words k within line = by (ltb (2 * k + 1) (length words)) refl
   where
     by : (b : Bool) → ltb (2 * k + 1) (length words) ≡ b → Judged language words ⊎ Longer language words (k + 1)
     by false e =
         let all : take (2 * k + 1) words ≡ words = take_all (2 * k + 1) words (ltb-false (2 * k + 1) (length words) e) in
-        let P : List (List ℕ) → Type 0 = λ ws. IsCommandLine language ws in
+        let P : List (List ℕ) → Type 0 = λ ws. HasOptions language ws in
         inl (inl (subst P all line))
     by true e = named (ltb-true (2 * k + 1) (length words) e) (names_or_not language decided words k) (value_or_not language decided words (2 * k + 1))
       where
@@ -158,14 +154,14 @@ all_or_longer language decided words k within line = by (ltb (2 * k + 1) (length
             longer true f =
                 let there : 2 * k + 1 + 1 < length words = ltb-true (2 * k + 1 + 1) (length words) f in
                 let next : 2 * k + 1 + 2 ≡ 2 * (k + 1) + 1 = omega arith in
-                let P : ℕ → Type 0 = λ n. IsCommandLine language (take n words) in
+                let P : ℕ → Type 0 = λ n. HasOptions language (take n words) in
                 inr (omega arith, subst P next (line_more language words (2 * k + 1) k refl line name value))
 
 -- so each list of words is judged
-judge : {C S : Type 0} (language : Language C S) → IsDecided language → (steps : ℕ) (words : List (List ℕ)) (k : ℕ) → length words ≤ 2 * k + 1 + steps → 2 * k + 1 ≤ length words → IsCommandLine language (take (2 * k + 1) words) → Judged language words
+judge : {C S : Type 0} (language : Language C S) → IsDecided language → (steps : ℕ) (words : List (List ℕ)) (k : ℕ) → length words ≤ 2 * k + 1 + steps → 2 * k + 1 ≤ length words → HasOptions language (take (2 * k + 1) words) → Judged language words
 judge language decided zero words k most within line =
     let all : take (2 * k + 1) words ≡ words = take_all (2 * k + 1) words (omega arith) in
-    let P : List (List ℕ) → Type 0 = λ ws. IsCommandLine language ws in
+    let P : List (List ℕ) → Type 0 = λ ws. HasOptions language ws in
     inl (subst P all line)
 judge language decided (suc steps) words k most within line =
     elim (all_or_longer language decided words k within line) [ inl judged ↦ judged | inr more ↦ judge language decided steps words (k + 1) (omega arith) more.0 more.1 ]
@@ -174,19 +170,19 @@ judge language decided (suc steps) words k most within line =
 broken : {C S : Type 0} (language : Language C S) (words : List (List ℕ)) (place : ℕ) → BreaksAt language words place → BreaksItOnce language words place
 broken language words place breaks = record { here = breaks; only = λ other there. one_place language words place other breaks there; outside = λ line. no_break language words place line breaks }
 
--- the words begin with the command or not
-pub command_or_not : {C S : Type 0} (language : Language C S) (words : List (List ℕ)) → HasCommand language words ⊎ ¬ (HasCommand language words)
-command_or_not language [] = inr (λ command. absurd (omega (arith, command.0)))
-command_or_not language (word ∷ words) = by (bytes_eq word language.command) refl
+-- the words begin with a command or not
+pub command_or_not : (command : List ℕ) (words : List (List ℕ)) → HasCommand command words ⊎ ¬ (HasCommand command words)
+command_or_not command [] = inr (λ has. absurd (omega (arith, has.0)))
+command_or_not command (word ∷ words) = by (bytes_eq word command) refl
   where
-    by : (b : Bool) → bytes_eq word language.command ≡ b → HasCommand language (word ∷ words) ⊎ ¬ (HasCommand language (word ∷ words))
-    by true e = inl (omega arith, (bytes_eq-Decides word language.command).0 e)
-    by false e = inr (λ command. false≢true (sym e ∙ (bytes_eq-Decides word language.command).1 command.1))
+    by : (b : Bool) → bytes_eq word command ≡ b → HasCommand command (word ∷ words) ⊎ ¬ (HasCommand command (word ∷ words))
+    by true e = inl (omega arith, (bytes_eq-Decides word command).0 e)
+    by false e = inr (λ has. false≢true (sym e ∙ (bytes_eq-Decides word command).1 has.1))
 
 -- one or the other, at one place, where the language is decided
-pub line_or_break : {C S : Type 0} (language : Language C S) → IsDecided language → (words : List (List ℕ)) → HasCommand language words → LineOrBreak language words
-line_or_break language decided words command =
-    elim (judge language decided (length words) words 0 (omega arith) (omega (arith, command.0)) (first_line language words command)) [
+pub line_or_break : {C S : Type 0} (language : Language C S) → IsDecided language → (words : List (List ℕ)) → 0 < length words → LineOrBreak language words
+line_or_break language decided words there =
+    elim (judge language decided (length words) words 0 (omega arith) (omega arith) (first_line language words there)) [
       | inl line ↦ inl (line, λ place breaks. no_break language words place line breaks)
       | inr breaks ↦ inr (breaks.0, broken language words breaks.0 breaks.1)
     ]

@@ -3,9 +3,8 @@ use Rattle.std.proofs.Common.{◌≡◌, ℕ, ◌+◌, ◌*◌, ◌<◌, ◌≤�
 use Rattle.std.proofs.lemmas.Bool.{ltb-true, ltb-false}
 use Rattle.std.proofs.lemmas.List.{length-take-le, take_more}
 use Rattle.std.specs.Option.{option_map_or}
-use Rattle.cd_words.specs.CommandLines.{Language, word_at, HasCommand, NamesOption, SaysValue, IsCommandLine, BreaksAt, settings_from, settings_of}
-use Rattle.cd_words.specs.CommandLines.BreaksAt.{no_command, no_name, no_value}
-use Rattle.cd_words.specs.Faults.{BreaksAfterCommand}
+use Rattle.cd_words.specs.CommandLines.{Language, word_at, NamesOption, SaysValue, HasOptions, BreaksAt, settings_from, settings_of}
+use Rattle.cd_words.specs.CommandLines.BreaksAt.{no_name, no_value}
 
 -- a name among the first words is one among all
 pub name_of_front : {C S : Type 0} (language : Language C S) (words : List (List ℕ)) (n place : ℕ) → place < n → NamesOption language (take n words) place → NamesOption language words place
@@ -39,23 +38,23 @@ value_in_front language words n place within below says = record {
   said = rw (get_or-take n words place [] (omega arith), get_or-take n words (place + 1) [] below) says.said;
 }
 
--- the command alone is a command line
-pub first_line : {C S : Type 0} (language : Language C S) (words : List (List ℕ)) → HasCommand language words → IsCommandLine language (take 1 words)
-first_line language words command = record {
-  command = (omega (arith, command.0, length-take-le 1 words (omega (arith, command.0))), get_or-take 1 words 0 [] (omega arith) ∙ command.1);
-  name = λ k below. absurd (omega (arith, length-take-le 1 words (omega (arith, command.0))));
-  value = λ k below. absurd (omega (arith, length-take-le 1 words (omega (arith, command.0))));
+-- the command alone has options: none
+pub first_line : {C S : Type 0} (language : Language C S) (words : List (List ℕ)) → 0 < length words → HasOptions language (take 1 words)
+first_line language words there = record {
+  first = omega (arith, length-take-le 1 words (omega arith));
+  name = λ k below. absurd (omega (arith, length-take-le 1 words (omega arith)));
+  value = λ k below. absurd (omega (arith, length-take-le 1 words (omega arith)));
 }
 
 -- a command line with one more option and its value
-pub line_more : {C S : Type 0} (language : Language C S) (words : List (List ℕ)) (place k : ℕ) → place ≡ 2 * k + 1 → IsCommandLine language (take place words) →
-    NamesOption language words place → SaysValue language words place → IsCommandLine language (take (place + 2) words)
+pub line_more : {C S : Type 0} (language : Language C S) (words : List (List ℕ)) (place k : ℕ) → place ≡ 2 * k + 1 → HasOptions language (take place words) →
+    NamesOption language words place → SaysValue language words place → HasOptions language (take (place + 2) words)
 line_more language words place k odd line name value =
     let there : place + 1 < length words = value.there in
     let short : length (take place words) ≡ place = length-take-le place words (omega arith) in
     let long : length (take (place + 2) words) ≡ place + 2 = length-take-le (place + 2) words (omega arith) in
     record {
-      command = (omega arith, get_or-take (place + 2) words 0 [] (omega arith) ∙ sym (get_or-take place words 0 [] (omega arith)) ∙ line.command.1);
+      first = omega arith;
       name = λ j below. name_in_front language words (place + 2) (2 * j + 1) (omega arith) (names j (omega arith));
       value = λ j below. value_in_front language words (place + 2) (2 * j + 1) (omega arith) (omega arith) (values there j (omega arith));
     }
@@ -133,22 +132,16 @@ settings_first language (command ∷ words) = refl
 
 -- after a command line stands no name
 pub breaks_name : {C S : Type 0} (language : Language C S) (words : List (List ℕ)) (place k : ℕ) → place ≡ 2 * k + 1 → place < length words →
-    IsCommandLine language (take place words) → ¬ (NamesOption language words place) → BreaksAt language words place
+    HasOptions language (take place words) → ¬ (NamesOption language words place) → BreaksAt language words place
 breaks_name language words place k odd there line other =
-    let P : ℕ → Type 0 = λ p. p < length words → IsCommandLine language (take p words) → ¬ (NamesOption language words p) → BreaksAt language words p in
+    let P : ℕ → Type 0 = λ p. p < length words → HasOptions language (take p words) → ¬ (NamesOption language words p) → BreaksAt language words p in
     subst P (sym odd) (no_name k) there line other
-
--- words that begin with a command break a rule after it
-pub breaks_after : {C S : Type 0} (language : Language C S) (words : List (List ℕ)) (place : ℕ) → HasCommand language words → BreaksAt language words place → BreaksAfterCommand language words place
-breaks_after language words _ command (no_command other) = absurd (other command)
-breaks_after language words _ command (no_name k there line other) = record { command = command; after = omega arith; breaks = no_name k there line other }
-breaks_after language words _ command (no_value k there line name other) = record { command = command; after = omega arith; breaks = no_value k there line name other }
 
 -- after a name stands no value
 pub breaks_value : {C S : Type 0} (language : Language C S) (words : List (List ℕ)) (place k : ℕ) → place ≡ 2 * k + 1 → place < length words →
-    IsCommandLine language (take place words) → NamesOption language words place → ¬ (SaysValue language words place) → BreaksAt language words (place + 1)
+    HasOptions language (take place words) → NamesOption language words place → ¬ (SaysValue language words place) → BreaksAt language words (place + 1)
 breaks_value language words place k odd there line name other =
-    let P : ℕ → Type 0 = λ p. p < length words → IsCommandLine language (take p words) → NamesOption language words p → ¬ (SaysValue language words p) → BreaksAt language words (2 * k + 2) in
+    let P : ℕ → Type 0 = λ p. p < length words → HasOptions language (take p words) → NamesOption language words p → ¬ (SaysValue language words p) → BreaksAt language words (2 * k + 2) in
     let after : 2 * k + 2 ≡ place + 1 = omega arith in
     let Q : ℕ → Type 0 = λ p. BreaksAt language words p in
     subst Q after (subst P (sym odd) (no_value k) there line name other)

@@ -12,10 +12,11 @@ use Rattle.cd_hints.specs.declared.settings.options.NumberOption.TheVariants.{Wo
 use Rattle.cd_hints.specs.declared.settings.options.ListOption.TheVariants.{Opcodes, RrTypes}
 use Rattle.cd_words.specs.declared.compact_option.CompactOption.TheVariants.{Number, Parts}
 use Rattle.cd_words.specs.Options.{all_options, word_of, option_named}
+use Rattle.cd_words.specs.Compact.{compact}
 use Rattle.cd_words.specs.Laws.{OptionsHaveNames}
 
 -- the word of each option names it
-pub options_named : OptionsHaveNames
+pub options_named : OptionsHaveNames compact word_of
 unfolding option_named
 options_named (Number Workers) = refl
 options_named (Number Ticks) = refl
@@ -39,7 +40,7 @@ options_named (Parts Opcodes) = refl
 options_named (Parts RrTypes) = refl
 
 -- what is found passes the test
-found_passes : (p : CompactOption → Bool) (options : List CompactOption) (option : CompactOption) → find p options ≡ Some option → p option ≡ true
+found_passes : {C : Type 0} (p : C → Bool) (options : List C) (option : C) → find p options ≡ Some option → p option ≡ true
 found_passes p [] option h = absurd (cc)
 found_passes p (first ∷ options) option h = by (p first) refl (found_passes p options option) h
   where
@@ -51,14 +52,18 @@ found_passes p (first ∷ options) option h = by (p first) refl (found_passes p 
 pub names_it : (word : List ℕ) (option : CompactOption) → word ≡ word_of option → Some option ≡ option_named word
 names_it word option e = sym (ap option_named e ∙ options_named option)
 
--- a word that is none of theirs names none
+-- a word that is none of theirs is not found
+pub none_found : {C : Type 0} (word_of : C → List ℕ) (options : List C) (word : List ℕ) → ((option : C) → word ≢ word_of option) → None ≡ find (λ option. bytes_eq word (word_of option)) options
+none_found {C} word_of options word other = by (find (λ option. bytes_eq word (word_of option)) options) refl
+  where
+    by : (o : Option C) → find (λ option. bytes_eq word (word_of option)) options ≡ o → None ≡ o
+    by None e = refl
+    by (Some option) e = absurd (other option ((bytes_eq-Decides word (word_of option)).0 (found_passes (λ option. bytes_eq word (word_of option)) options option e)))
+
+-- so it names none
 pub names_none : (word : List ℕ) → ((option : CompactOption) → word ≢ word_of option) → None ≡ option_named word
 unfolding option_named
-names_none word other = by (find (λ option. bytes_eq word (word_of option)) all_options) refl
-  where
-    by : (o : Option CompactOption) → find (λ option. bytes_eq word (word_of option)) all_options ≡ o → None ≡ o
-    by None e = refl
-    by (Some option) e = absurd (other option ((bytes_eq-Decides word (word_of option)).0 (found_passes (λ option. bytes_eq word (word_of option)) all_options option e)))
+names_none word other = none_found word_of all_options word other
 
 -- what stands after two dashes
 pub after_dashes : {xs ys : List ℕ} → 45 ∷ 45 ∷ xs ≡ 45 ∷ 45 ∷ ys → xs ≡ ys
@@ -81,9 +86,9 @@ no_name word name split numbers lists = names_none word by
     by (Number option) e = numbers option (sym (after_dashes (sym split ∙ e)))
     by (Parts option) e = lists option (sym (after_dashes (sym split ∙ e)))
 
--- two options are the same or not, as their words are
-pub same_or_not : (first second : CompactOption) → (first ≡ second) ⊎ (first ≢ second)
-same_or_not first second = by (bytes_eq (word_of first) (word_of second)) refl
+-- two options whose words name them are the same or not, as their words are
+pub same_by_words : {C : Type 0} (word_of : C → List ℕ) (named : List ℕ → Option C) → ((option : C) → named (word_of option) ≡ Some option) → (first second : C) → (first ≡ second) ⊎ (first ≢ second)
+same_by_words word_of named names first second = by (bytes_eq (word_of first) (word_of second)) refl
   where
     some_same : Some first ≡ Some second → first ≡ second
     some_same e = cc
@@ -91,5 +96,9 @@ same_or_not first second = by (bytes_eq (word_of first) (word_of second)) refl
     by : (b : Bool) → bytes_eq (word_of first) (word_of second) ≡ b → (first ≡ second) ⊎ (first ≢ second)
     by true e =
         let words : word_of first ≡ word_of second = (bytes_eq-Decides (word_of first) (word_of second)).0 e in
-        inl (some_same (sym (options_named first) ∙ ap option_named words ∙ options_named second))
+        inl (some_same (sym (names first) ∙ ap named words ∙ names second))
     by false e = inr (λ same. false≢true (sym e ∙ (bytes_eq-Decides (word_of first) (word_of second)).1 (ap word_of same)))
+
+-- two options of `compact` are the same or not
+pub same_or_not : (first second : CompactOption) → (first ≡ second) ⊎ (first ≢ second)
+same_or_not first second = same_by_words word_of option_named options_named first second

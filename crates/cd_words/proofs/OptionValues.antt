@@ -3,13 +3,15 @@ use Rattle.std.proofs.Common.{lit≤, inl, refl}
 use Rattle.std.specs.Prelude.{codes}
 use Rattle.cd_hints.specs.declared.settings.options.NumberOption.TheVariants.{Workers, Ticks, QueryTimeout, SkewTimeout, Window, WindowBytes, BlockItems, BlockBytes, QrHints, SigHints, RrHints, OtherHints, ClientPrefix4, ClientPrefix6, ServerPrefix4, ServerPrefix6, Port, MaxInput}
 use Rattle.cd_hints.specs.declared.settings.options.ListOption.TheVariants.{Opcodes, RrTypes}
-use Rattle.cd_words.specs.declared.check_option.CheckOption.TheVariants as checking
+use Rattle.cd_words.specs.declared.drill_option.DrillOption.TheVariants as drilling
+use Rattle.cd_words.specs.declared.reading_option.ReadingOption.TheVariants as of_file
 use Rattle.cd_words.specs.declared.compact_option.CompactOption.TheVariants.{Number, Parts}
 use Rattle.cd_words.specs.Numbers.{number_of}
 use Rattle.cd_words.specs.Parts.{interval_of, part_of, parts_of}
-use Rattle.cd_words.specs.Check.{check}
 use Rattle.cd_words.specs.Compact.{compact}
+use Rattle.cd_words.specs.Drill.{drill}
 use Rattle.cd_words.specs.Laws.{OptionsHaveValues}
+use Rattle.cd_words.specs.Reading.{reading}
 
 -- the least one, or a list of it alone
 pub options_valued : OptionsHaveValues compact
@@ -36,6 +38,13 @@ options_valued (Parts Opcodes) = (codes "0", refl)
 options_valued (Parts RrTypes) = (codes "0", refl)
 
 -- the least one
-pub check_options_valued : OptionsHaveValues check
+pub reading_options_valued : OptionsHaveValues reading
 unfolding number_of
-check_options_valued checking.MaxInput = (codes "0", record { least = lit≤ tt; most = lit≤ tt; allowed = tt })
+reading_options_valued of_file.MaxInput = (codes "0", record { least = lit≤ tt; most = lit≤ tt; allowed = tt })
+
+-- the least one
+pub drill_options_valued : OptionsHaveValues drill
+unfolding number_of
+drill_options_valued drilling.Count = (codes "1", record { least = lit≤ tt; most = lit≤ tt })
+drill_options_valued drilling.Seed = (codes "0", record { least = lit≤ tt; most = lit≤ tt })
+drill_options_valued drilling.Workers = (codes "0", record { least = lit≤ tt; most = lit≤ tt })

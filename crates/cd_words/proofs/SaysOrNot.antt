@@ -7,13 +7,15 @@ use Rattle.cd_hints.specs.declared.settings.interval.Interval.{Interval}
 use Rattle.cd_hints.specs.declared.settings.options.NumberOption.{NumberOption}
 use Rattle.cd_hints.specs.declared.settings.options.NumberOption.TheVariants.{Ticks, QrHints, SigHints}
 use Rattle.cd_hints.specs.Options.{Admits, IsAllowed, option_range, list_range}
-use Rattle.cd_words.specs.declared.check_option.CheckOption.{CheckOption}
 use Rattle.cd_words.specs.declared.compact_option.CompactOption.{CompactOption}
 use Rattle.cd_words.specs.declared.compact_option.CompactOption.TheVariants.{Number, Parts}
-use Rattle.cd_words.specs.Check.{number_option, CheckSays}
-use Rattle.cd_words.specs.Numbers.{number_of, SaysNumber}
+use Rattle.cd_words.specs.declared.drill_option.DrillOption.{DrillOption}
+use Rattle.cd_words.specs.declared.reading_option.ReadingOption.{ReadingOption}
+use Rattle.cd_words.specs.Drill.{drill_range, DrillSays}
+use Rattle.cd_words.specs.Numbers.{number_of, IsIn, SaysNumber}
 use Rattle.cd_words.specs.Parts.{parts_of}
 use Rattle.cd_words.specs.Options.{Says}
+use Rattle.cd_words.specs.Reading.{number_option, ReadingSays}
 
 -- two numbers are equal or not
 equal_or_not : (a b : ℕ) → (a ≡ b) ⊎ (a ≢ b)
@@ -61,6 +63,24 @@ says_or_not (Parts option) word = by (parts_of (list_range option) word)
     by None = inr (λ h. false≢true h)
     by (Some parts) = inl refl
 
--- a word says a value of an option of `check` or not
-pub check_says_or_not : (option : CheckOption) (word : List ℕ) → CheckSays option word ⊎ ¬ (CheckSays option word)
-check_says_or_not option word = number_or_not (number_option option) word
+-- a word says a value of an option of `check` and `inspect` or not
+pub reading_says_or_not : (option : ReadingOption) (word : List ℕ) → ReadingSays option word ⊎ ¬ (ReadingSays option word)
+reading_says_or_not option word = number_or_not (number_option option) word
+
+-- a number is one of a range or not
+in_or_not : (range : Interval) (n : ℕ) → IsIn range n ⊎ ¬ (IsIn range n)
+in_or_not range n = by (leb_tells range.least n) (leb_tells n range.most)
+  where
+    by : ((leb range.least n ≡ true) × (range.least ≤ n)) ⊎ ((leb range.least n ≡ false) × (n < range.least)) →
+        ((leb n range.most ≡ true) × (n ≤ range.most)) ⊎ ((leb n range.most ≡ false) × (range.most < n)) → IsIn range n ⊎ ¬ (IsIn range n)
+    by (inl least) (inl most) = inl (record { least = least.1; most = most.1 })
+    by (inl least) (inr above) = inr (λ h. absurd (omega (arith, above.1, h.most)))
+    by (inr below) most = inr (λ h. absurd (omega (arith, below.1, h.least)))
+
+-- a word says a value of an option of `drill` or not
+pub drill_says_or_not : (option : DrillOption) (word : List ℕ) → DrillSays option word ⊎ ¬ (DrillSays option word)
+drill_says_or_not option word = by (number_of word)
+  where
+    by : (o : Option ℕ) → IsSomeAnd o (IsIn (drill_range option)) ⊎ ¬ (IsSomeAnd o (IsIn (drill_range option)))
+    by None = inr (λ h. h)
+    by (Some n) = in_or_not (drill_range option) n

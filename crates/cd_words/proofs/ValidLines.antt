@@ -1,7 +1,7 @@
 -- The settings of a command line are valid, in any language whose values keep them so.
 use Rattle.std.proofs.Common.{◌≡◌, ℕ, ◌+◌, ◌*◌, ◌<◌, suc, List, [], ◌∷◌, length, Option, Some, None, IsSomeAnd, refl, subst, arith}
 use Rattle.std.specs.Option.{option_map_or}
-use Rattle.cd_words.specs.CommandLines.{Language, word_at, IsCommandLine, SaysValue, settings_from, settings_of}
+use Rattle.cd_words.specs.CommandLines.{Language, word_at, HasOptions, SaysValue, settings_from, settings_of}
 
 -- the defaults are valid, and settings stay so where an option has a value that a word says
 pub record KeepsValid {C S : Type 0} (language : Language C S) (is_valid : S → Type 0) : Type 0 where
@@ -29,10 +29,10 @@ valid_from {C} language is_valid keeps s (name ∷ value ∷ words) say v =
     by (Some option) says = keeps.value option value s says v
 
 -- the settings of a command line are valid
-pub valid_lines : {C S : Type 0} (language : Language C S) (is_valid : S → Type 0) → KeepsValid language is_valid → (words : List (List ℕ)) → IsCommandLine language words →
+pub valid_lines : {C S : Type 0} (language : Language C S) (is_valid : S → Type 0) → KeepsValid language is_valid → (words : List (List ℕ)) → HasOptions language words →
     is_valid (settings_of language words)
 unfolding settings_of
-valid_lines language is_valid keeps [] line = absurd (omega (arith, line.command.0))
+valid_lines language is_valid keeps [] line = absurd (omega (arith, line.first))
 valid_lines language is_valid keeps (command ∷ words) line = valid_from language is_valid keeps language.defaults words says keeps.defaults
   where
     says : SayValues language words

@@ -1,13 +1,11 @@
--- The language of the words of a command: the grammar of command lines, for any command.
+-- The words of a command line: the grammar of a command and its options, for any command.
 use Rattle.std.specs.Prelude.{◌≡◌, ◌≢◌, ℕ, ◌+◌, ◌*◌, ◌<◌, List, length, [], ◌∷◌, take, drop, slice_index_or, Option}
 use Rattle.std.specs.Prelude.{Some, IsSome, IsSomeAnd}
 use Rattle.std.specs.Option.{option_map_or}
 
--- The language of a command: its word, the options that words name, the values that they may say, and what these
--- change.
+-- The language of what stands after a command: the options that words name, the values that they may say, and what
+-- these change.
 pub record Language (Choice Settings : Type 0) : Type 1 where
-  -- the word of the command
-  pub command : List ℕ
   -- the option that a word names, if it names one
   pub named : List ℕ → Option Choice
   -- a word says a value of an option
@@ -21,9 +19,9 @@ pub record Language (Choice Settings : Type 0) : Type 1 where
 abbrev pub word_at : List (List ℕ) → ℕ → List ℕ
 word_at words place = slice_index_or words place []
 
--- the words begin with the command
-abbrev pub HasCommand : {C S : Type 0} → Language C S → List (List ℕ) → Type 0
-HasCommand language words = (0 < length words) × (word_at words 0 ≡ language.command)
+-- the words begin with a command
+abbrev pub HasCommand : List ℕ → List (List ℕ) → Type 0
+HasCommand command words = (0 < length words) × (word_at words 0 ≡ command)
 
 -- A word names an option that no name before it names. Names stand at the odd places.
 pub record NamesOption {C S : Type 0} (language : Language C S) (words : List (List ℕ)) (place : ℕ) : Type 0 where
@@ -42,22 +40,24 @@ pub record SaysValue {C S : Type 0} (language : Language C S) (words : List (Lis
   pub said : IsSomeAnd (language.named (word_at words place))
       (λ option. language.Says option (word_at words (place + 1)))
 
--- a command line: after the command, names and values by turns
-pub record IsCommandLine {C S : Type 0} (language : Language C S) (words : List (List ℕ)) : Type 0 where
-  pub command : HasCommand language words
+-- after a first word stand names and values by turns
+pub record HasOptions {C S : Type 0} (language : Language C S) (words : List (List ℕ)) : Type 0 where
+  pub first : 0 < length words
   pub name : (k : ℕ) → 2 * k + 1 < length words → NamesOption language words (2 * k + 1)
   pub value : (k : ℕ) → 2 * k + 1 < length words → SaysValue language words (2 * k + 1)
 
--- the place of the first word that breaks a rule, or of a word that is missing
+-- a command line: this command, and after it options of this language
+abbrev pub IsCommandLine : {C S : Type 0} → List ℕ → Language C S → List (List ℕ) → Type 0
+IsCommandLine command language words = HasCommand command words × HasOptions language words
+
+-- after a first word, the place of the first word that breaks a rule, or of a word that is missing
 pub data BreaksAt {C S : Type 0} (language : Language C S) (words : List (List ℕ)) : ℕ → Type 0 where
-  -- the first word is not the command, or there is none
-  no_command : ¬ (HasCommand language words) → BreaksAt language words 0
-  -- after a command line stands a word that names no option, or one that was named before
-  no_name : (k : ℕ) → 2 * k + 1 < length words → IsCommandLine language (take (2 * k + 1) words) →
+  -- after options stands a word that names no option, or one that was named before
+  no_name : (k : ℕ) → 2 * k + 1 < length words → HasOptions language (take (2 * k + 1) words) →
       ¬ (NamesOption language words (2 * k + 1)) →
       BreaksAt language words (2 * k + 1)
-  -- after a command line and a name stands no value of the option, or no word
-  no_value : (k : ℕ) → 2 * k + 1 < length words → IsCommandLine language (take (2 * k + 1) words) →
+  -- after options and a name stands no value of the option, or no word
+  no_value : (k : ℕ) → 2 * k + 1 < length words → HasOptions language (take (2 * k + 1) words) →
       NamesOption language words (2 * k + 1) →
       ¬ (SaysValue language words (2 * k + 1)) → BreaksAt language words (2 * k + 2)
 

@@ -1,5 +1,5 @@
 -- The language of `compact`.
-use Rattle.std.specs.Prelude.{ℕ, List, [], unwrap_or, codes}
+use Rattle.std.specs.Prelude.{ℕ, List, [], unwrap_or}
 use Rattle.cd_hints.specs.declared.settings.interval.Interval.{Interval}
 use Rattle.cd_hints.specs.declared.settings.Settings.{Settings}
 use Rattle.cd_hints.specs.declared.settings.options.ListOption.{ListOption}
@@ -27,7 +27,6 @@ with_value (Parts option) word s = with_parts option (unwrap_or (parts_of (list_
 -- the language of `compact`
 abbrev pub compact : Language CompactOption Settings
 compact = record {
-  command = codes "compact";
   named = option_named;
   Says = Says;
   defaults = default_settings;

@@ -1,26 +1,18 @@
 -- Laws of the command line.
 use Rattle.std.specs.Prelude.{◌≡◌, ◌↔◌, ℕ, ◌^◌, ◌<◌, ◌⊎◌, List, Some}
 use Rattle.std.specs.Fmt.{decimal}
-use Rattle.cd_words.specs.declared.check_option.CheckOption.{CheckOption}
 use Rattle.cd_words.specs.declared.command.Command.{Command}
-use Rattle.cd_words.specs.declared.compact_option.CompactOption.{CompactOption}
-use Rattle.cd_words.specs.Check.{check_word_of, check_option_named}
 use Rattle.cd_words.specs.Commands.{SaysCommand, IsLine, BreaksRuleAt, HasValidSettings}
 use Rattle.cd_words.specs.CommandLines.{Language}
 use Rattle.cd_words.specs.Numbers.{number_of}
-use Rattle.cd_words.specs.Options.{word_of, option_named}
 
 -- bytes are a number exactly where they are what std writes of it
 abbrev pub NumbersAreDecimal : Type 0
 NumbersAreDecimal = (text : List ℕ) (n : ℕ) → n < 2 ^ 64 → (number_of text ≡ Some n) ↔ (text ≡ decimal n)
 
--- the word of each option of `compact` names this option
-abbrev pub OptionsHaveNames : Type 0
-OptionsHaveNames = (option : CompactOption) → option_named (word_of option) ≡ Some option
-
--- the word of each option of `check` names this option
-abbrev pub CheckOptionsHaveNames : Type 0
-CheckOptionsHaveNames = (option : CheckOption) → check_option_named (check_word_of option) ≡ Some option
+-- the word of each option of a language names this option
+abbrev pub OptionsHaveNames : {C S : Type 0} → Language C S → (C → List ℕ) → Type 0
+OptionsHaveNames {C} language word_of = (option : C) → language.named (word_of option) ≡ Some option
 
 -- each option of a language has a value that a word says, so words that end with a name can go on
 abbrev pub OptionsHaveValues : {C S : Type 0} → Language C S → Type 0

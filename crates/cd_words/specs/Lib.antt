@@ -3,7 +3,8 @@ pub mod Parts
 pub mod CommandLines
 pub mod Options
 pub mod Compact
-pub mod Check
+pub mod Reading
+pub mod Drill
 pub mod Faults
 pub mod Commands
 pub mod Laws

@@ -29,7 +29,7 @@ abbrev pub option_name : CompactOption → List ℕ
 option_name (Number option) = name_of option
 option_name (Parts option) = list_name_of option
 
--- the word that names an option
+-- the word that names an option of `compact`
 abbrev pub word_of : CompactOption → List ℕ
 word_of option = codes "--" ++ option_name option
 

@@ -2,7 +2,7 @@
 
 ghost use Rattle.std.specs.Prelude.{◌≡◌, ◌<◌, ◌≤◌, ◌↔◌, IsTrue, length, Some, MatchOption, IfOk, IfErr};
 ghost use Rattle.std.specs.Bool.{Decides, MatchBool};
-ghost use Rattle.cd_words.specs.CommandLines.{word_at, HasCommand, IsNamedBefore, NamesOption, IsCommandLine};
+ghost use Rattle.cd_words.specs.CommandLines.{word_at, HasCommand, IsNamedBefore, NamesOption, HasOptions};
 ghost use Rattle.cd_words.specs.CommandLines.{settings_of};
 ghost use Rattle.cd_words.specs.Faults.{HasFaultIn};
 
@@ -13,7 +13,7 @@ use std::alloc::Global;
 
 /// Whether the words begin with a command.
 pub fn begins_with(words: &[Blob], command: &[u8]) -> bool
-    ensures { IsTrue result ↔ ((0 < length words.now) × (word_at words.now 0 ≡ command.now)) }
+    ensures { IsTrue result ↔ HasCommand command.now words.now }
 {
     match words.first() {
         Some(word) => word.as_slice() == command,
@@ -65,14 +65,14 @@ fn option_at<O: CommandOption>(words: &[Blob], place: usize) -> Option<O>
     Some(option)
 }
 
-/// The settings that the options say, after the command.
+/// The settings that the options say, which stand after the command.
 pub fn read_options<O: CommandOption>(
     alloc: Global,
     words: &[Blob],
 ) -> Result<O::Settings, WordsFault>
-    requires { HasCommand O.language words.now }
+    requires { 0 < length words.now }
     ensures settings { IfOk result (λ settings.
-        IsCommandLine O.language words.now × (settings ≡ settings_of O.language words.now)) }
+        HasOptions O.language words.now × (settings ≡ settings_of O.language words.now)) }
     ensures fault { IfErr result (HasFaultIn O.language words.now) }
     ensures valid { IfOk result O.is_valid }
 {

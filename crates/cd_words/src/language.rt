@@ -1,4 +1,4 @@
-//! The language of a command, as its options tell it.
+//! The language of what stands after a command, as its options tell it.
 
 ghost use Rattle.std.specs.Prelude.{◌≡◌, false, IfOk, OnOk};
 ghost use Rattle.std.specs.Bool.{Decides, MatchBool};
@@ -6,8 +6,8 @@ ghost use Rattle.cd_words.specs.CommandLines.{Language};
 
 use std::alloc::{AllocError, Global};
 
-/// An option of a command. It tells the language of the command: which options there are, what each says and what it
-/// changes.
+/// An option of a command. It tells the language of what stands after the command: which options there are, what each
+/// says and what it changes.
 pub trait CommandOption: Copy {
     /// What the options change.
     type Settings: Drop;

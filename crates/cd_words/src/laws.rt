@@ -1,9 +1,11 @@
 //! Laws of the language: contracts of functions that do nothing.
 
-ghost use Rattle.cd_words.specs.Check.{check};
 ghost use Rattle.cd_words.specs.Compact.{compact};
-ghost use Rattle.cd_words.specs.Laws.{NumbersAreDecimal, OptionsHaveNames, CheckOptionsHaveNames, OptionsHaveValues};
+ghost use Rattle.cd_words.specs.Drill.{drill, drill_word_of};
+ghost use Rattle.cd_words.specs.Laws.{NumbersAreDecimal, OptionsHaveNames, OptionsHaveValues};
 ghost use Rattle.cd_words.specs.Laws.{LinesOrBreaks, CommandsAreOne, CommandsAreValid};
+ghost use Rattle.cd_words.specs.Options.{word_of};
+ghost use Rattle.cd_words.specs.Reading.{reading, reading_word_of};
 
 /// A law: bytes are a number exactly where they are what std writes of it. It does nothing.
 pub fn numbers_are_decimal()
@@ -12,14 +14,16 @@ pub fn numbers_are_decimal()
 
 /// A law: the word of each option names this option. It does nothing.
 pub fn options_have_names()
-    ensures compact { OptionsHaveNames }
-    ensures check { CheckOptionsHaveNames }
+    ensures compact { OptionsHaveNames compact word_of }
+    ensures reading { OptionsHaveNames reading reading_word_of }
+    ensures drill { OptionsHaveNames drill drill_word_of }
 {}
 
 /// A law: each option has a value that a word says. It does nothing.
 pub fn options_have_values()
     ensures compact { OptionsHaveValues compact }
-    ensures check { OptionsHaveValues check }
+    ensures reading { OptionsHaveValues reading }
+    ensures drill { OptionsHaveValues drill }
 {}
 
 /// A law: words are a command line, or break a rule at exactly one place. It does nothing.

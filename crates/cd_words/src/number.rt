@@ -1,10 +1,10 @@
 //! Numbers of the command line.
 
-ghost use Rattle.std.specs.Prelude.{◌≡◌, ◌^◌, ◌≤◌, IfSome, MatchOption, Some};
+ghost use Rattle.std.specs.Prelude.{◌≡◌, ◌^◌, ◌<◌, ◌≤◌, IfSome, MatchOption, Some};
 ghost use Rattle.cd_hints.specs.Options.{Admits};
-ghost use Rattle.cd_words.specs.Numbers.{has_no_leading_zero, number_of, SaysNumber};
+ghost use Rattle.cd_words.specs.Numbers.{has_no_leading_zero, number_of, IsIn, SaysNumber, SaysNumberIn};
 
-use cd_hints::NumberOption;
+use cd_hints::{Interval, NumberOption};
 
 // Whether there is a byte, and the first of several is not a 0.
 fn has_no_leading_zero(text: &[u8]) -> bool
@@ -47,6 +47,18 @@ pub fn number_for(option: NumberOption, word: &[u8]) -> Option<u64>
 {
     match number(word) {
         Some(number) if option.admits(number) => Some(number),
+        _ => None,
+    }
+}
+
+/// The number of a range that a word says.
+pub fn number_in(range: Interval, word: &[u8]) -> Option<u64>
+    requires { range.most < 2 ^ 64 }
+    ensures { MatchOption result (¬ (SaysNumberIn range word.now))
+        (λ n. (number_of word.now ≡ Some n) × IsIn range n) }
+{
+    match number(word) {
+        Some(number) if range.holds(number) => Some(number),
         _ => None,
     }
 }
