@@ -8,6 +8,7 @@ use Rattle.cd_words.specs.declared.fault.WordsFault.TheVariants as fault
 use Rattle.cd_ports.specs.Reading.{SourceMeaning}
 use Rattle.cd_ports.specs.Writing.{SinkMeaning}
 use Rattle.cd_top.specs.Refusing.{usage_text, Refuses, RefusesWords}
+use Rattle.cd_top.specs.Statuses.{ComesExactly}
 use Rattle.cd_top.specs.declared.status.Status.{Status}
 use Rattle.cd_top.specs.declared.status.Status.TheVariants as status
 use Rattle.cd_top.proofs.Reporting.{unsaid}
@@ -37,6 +38,14 @@ fault_breaks words f p is has = let F : WordsFault → Type 0 = λ x. HasFault w
 -- words with a fault say no command
 pub broken_says_none : LinesOrBreaks → (words : List (List ℕ)) (f : WordsFault) (p : ℕ) (c : Command) → f ≡ fault.Usage p → HasFault words f → SaysCommand words c → ⊥
 broken_says_none law words f p c is has says = broken_is_no_line law words p (fault_breaks words f p is has) (c, says)
+
+-- and are refused so
+pub broken_comes : LinesOrBreaks → (words : List (List ℕ)) (f : WordsFault) (p : ℕ) (a b : SinkMeaning) (r : Status) → f ≡ fault.Usage p → HasFault words f →
+    Refuses p a b r → ComesExactly r status.Usage (¬ (IsLine words))
+broken_comes law words f p a b r is has h = record {
+  only = λ same line. broken_is_no_line law words p (fault_breaks words f p is has) line;
+  always = λ outside. h.ends;
+}
 
 -- the report says this place
 pub refused_words : LinesOrBreaks → (words : List (List ℕ)) (f : WordsFault) (p q : ℕ) (src : SourceMeaning) (out a b : SinkMeaning) (r : Status) →

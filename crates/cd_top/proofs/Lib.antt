@@ -3,6 +3,11 @@ mod Refused
 mod Unread
 mod Reporting
 mod Telling
+mod Judged
 mod Compacted
 mod Checked
+mod Inspected
+mod Projected
+mod Drilled
+mod DrillRuns
 mod BrokenWords

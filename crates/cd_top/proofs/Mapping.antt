@@ -67,13 +67,6 @@ not_stopped r e is going h =
 pub usage_goes : (r : Status) → r ≡ status.Usage → IsStopped r → ⊥
 usage_goes r is h = no_usage h.end (sym h.is ∙ is)
 
--- a run ends as what it does
-pub ends_mapped : (r : Status) (e f : Ended) → r ≡ status_of e → endings.EndsAs e f → EndsAs r (status_of f)
-ends_mapped r e f is h = elim h [
-  | inl same ↦ inl (is ∙ ap (λ x. status_of x) same)
-  | inr halt ↦ inr (has_end (λ x. endings.IsStopped x) r e is halt)
-]
-
 -- what comes exactly where memory ran out
 pub comes_stopped : (r s : Status) (P : Type 0) → r ≡ status.NoMemory → (r ≡ s → ⊥) → ComesExactly r s P
 comes_stopped r s P is other =
@@ -92,6 +85,24 @@ stopped_is r h = by h.end h.is h.holds
     by (ended.BadFile b) is halt = absurd halt
     by ended.ReadFault is halt = absurd halt
     by ended.TooLong is halt = absurd halt
+
+-- a run that ends so and is not stopped ends so alone
+pub ends_only : (r : Status) (e f : Ended) → EndsAs r (status_of e) → r ≡ status_of f → (endings.IsStopped f → ⊥) → e ≡ f
+ends_only r e f (inl same) is going = end_is r e f same is
+ends_only r e f (inr halt) is going = absurd (not_stopped r f is going halt)
+
+-- it is no refusal of the words
+pub ends_no_usage : (r : Status) (e : Ended) → EndsAs r (status_of e) → r ≡ status.Usage → ⊥
+ends_no_usage r e (inl same) is = no_usage e (sym same ∙ is)
+ends_no_usage r e (inr halt) is = usage_goes r is halt
+
+-- where no write failed a run that is done unless it is stopped is done or finds no memory
+pub ends_complete : (r : Status) → EndsAs r status.Done → (r ≡ status.WriteFault → ⊥) → (r ≡ status.Done) ⊎ (r ≡ status.NoMemory)
+ends_complete r (inl done) unfailed = inl done
+ends_complete r (inr halt) unfailed = elim (stopped_is r halt) [
+  | inl failed ↦ absurd (unfailed failed)
+  | inr memory ↦ inr memory
+]
 
 -- an end is a stop or not
 pub stopped_or_going : (e : Ended) → endings.IsStopped e ⊎ (endings.IsStopped e → ⊥)

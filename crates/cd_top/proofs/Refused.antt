@@ -14,8 +14,8 @@ use Rattle.cd_file.specs.ReadFile.{FileEnd, Whole, Open, Refused, number_after, 
 use Rattle.cd_file.specs.declared.refusal.BadFile.{BadFile}
 use Rattle.cd_packet.specs.declared.capture.BadCapture.{BadCapture}
 use Rattle.cd_words.specs.declared.command.Command.{Command}
-use Rattle.cd_words.specs.declared.command.Command.TheVariants.{Compact, Check}
-use Rattle.cd_top.specs.Run.{max_input_of, refused_for, refused_at_end_for, used_bytes, refusal_used, IsTooLong, ended_by}
+use Rattle.cd_words.specs.declared.command.Command.TheVariants.{Compact, Check, Inspect, Drill}
+use Rattle.cd_top.specs.Run.{max_input_of, refusal_by, refusal_at_end_by, refused_for, refused_at_end_for, used_bytes, refusal_used, IsTooLong, ended_by}
 use Rattle.cd_top.specs.Statuses.{status_of, EndsAs, ComesExactly}
 use Rattle.cd_top.specs.declared.status.Status.{Status}
 use Rattle.cd_top.specs.declared.status.Status.TheVariants as status
@@ -28,6 +28,19 @@ refused_or o other = refused_as (λ e. e) o other
 -- how it ends to take so many bytes that are not refused
 abbrev unrefused : Bool → Bool → Ended
 unrefused more told_end = cond more ended.TooLong (cond told_end ended.Done ended.ReadFault)
+
+-- what a file is refused for at its end it may be refused for before
+file_judged_once : (bytes : List ℕ) (x : Ended) →
+    refused_or (refusal_by judging_files bytes) (refused_or (refusal_at_end_by judging_files bytes) x) ≡ refused_or (refusal_at_end_by judging_files bytes) x
+file_judged_once bytes x =
+    by (number_after (kept_file bytes).params (length (kept_file bytes).blocks)) (length bytes) (kept_file bytes).end
+  where
+    by : (number count : ℕ) (e : FileEnd) →
+        refused_or (option_map judging_files.ended_for (refusal_at number e)) (refused_or (option_map judging_files.ended_for (refusal_at number (told count e))) x)
+        ≡ refused_or (option_map judging_files.ended_for (refusal_at number (told count e))) x
+    by number count Whole = refl
+    by number count Open = refl
+    by number count (Refused why) = refl
 
 -- what bytes are refused for at their end they may be refused for before
 judged_once : (c : Command) (bytes : List ℕ) (x : Ended) →
@@ -42,15 +55,9 @@ judged_once (Compact s) bytes x =
     by true o = refl
     by false None = refl
     by false (Some bad) = refl
-judged_once (Check max) bytes x =
-    by (number_after (kept_file bytes).params (length (kept_file bytes).blocks)) (length bytes) (kept_file bytes).end
-  where
-    by : (number count : ℕ) (e : FileEnd) →
-        refused_or (option_map judging_files.ended_for (refusal_at number e)) (refused_or (option_map judging_files.ended_for (refusal_at number (told count e))) x)
-        ≡ refused_or (option_map judging_files.ended_for (refusal_at number (told count e))) x
-    by number count Whole = refl
-    by number count Open = refl
-    by number count (Refused why) = refl
+judged_once (Check max) bytes x = file_judged_once bytes x
+judged_once (Inspect max) bytes x = file_judged_once bytes x
+judged_once (Drill settings) bytes x = refl
 
 -- how it ends to take bytes, by what those that are used are refused for
 pub ended_used : (c : Command) (taken : List ℕ) (told_end : Bool) →
@@ -68,29 +75,30 @@ ended_used c taken told_end =
     by false = refl
 
 -- no refusal is told as too many bytes
+told_short : {R : Type 0} (f : R → Ended) → ((r : R) → f r ≡ ended.TooLong → ⊥) → (o : Option R) → option_map f o ≡ Some ended.TooLong → ⊥
+told_short f short None is = cc
+told_short f short (Some r) is = short r (some_same (f r) ended.TooLong is)
+  where
+    some_same : (a b : Ended) → Some a ≡ Some b → a ≡ b
+    some_same a b same = cc
+
+capture_short : (o : Option BadCapture) → option_map judging_captures.ended_for o ≡ Some ended.TooLong → ⊥
+capture_short o is = told_short judging_captures.ended_for (λ b same. cc) o is
+
+file_short : (o : Option BadFile) → option_map judging_files.ended_for o ≡ Some ended.TooLong → ⊥
+file_short o is = told_short judging_files.ended_for (λ b same. cc) o is
+
 refused_short : (c : Command) (bytes : List ℕ) → refused_for c bytes ≡ Some ended.TooLong → ⊥
-refused_short (Compact s) bytes is = by (judging_captures.refused bytes) is
-  where
-    by : (o : Option BadCapture) → option_map judging_captures.ended_for o ≡ Some ended.TooLong → ⊥
-    by None is = cc
-    by (Some b) is = cc
-refused_short (Check max) bytes is = by (judging_files.refused bytes) is
-  where
-    by : (o : Option BadFile) → option_map judging_files.ended_for o ≡ Some ended.TooLong → ⊥
-    by None is = cc
-    by (Some b) is = cc
+refused_short (Compact s) bytes is = capture_short (judging_captures.refused bytes) is
+refused_short (Check max) bytes is = file_short (judging_files.refused bytes) is
+refused_short (Inspect max) bytes is = file_short (judging_files.refused bytes) is
+refused_short (Drill settings) bytes is = cc
 
 refused_at_end_short : (c : Command) (bytes : List ℕ) → refused_at_end_for c bytes ≡ Some ended.TooLong → ⊥
-refused_at_end_short (Compact s) bytes is = by (judging_captures.refused_at_end bytes) is
-  where
-    by : (o : Option BadCapture) → option_map judging_captures.ended_for o ≡ Some ended.TooLong → ⊥
-    by None is = cc
-    by (Some b) is = cc
-refused_at_end_short (Check max) bytes is = by (judging_files.refused_at_end bytes) is
-  where
-    by : (o : Option BadFile) → option_map judging_files.ended_for o ≡ Some ended.TooLong → ⊥
-    by None is = cc
-    by (Some b) is = cc
+refused_at_end_short (Compact s) bytes is = capture_short (judging_captures.refused_at_end bytes) is
+refused_at_end_short (Check max) bytes is = file_short (judging_files.refused_at_end bytes) is
+refused_at_end_short (Inspect max) bytes is = file_short (judging_files.refused_at_end bytes) is
+refused_at_end_short (Drill settings) bytes is = cc
 
 -- an end that is that of a refusal
 pub record IsRefusal (e : Ended) : Type 0 where

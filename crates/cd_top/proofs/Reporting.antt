@@ -1,6 +1,5 @@
 -- What a report gets that is written, or is not.
-use Rattle.std.proofs.Common.{◌≡◌, ℕ, List, ◌++◌, refl, ap, sym, ◌∙◌, inl, inr, subst, append_assoc}
-use Rattle.std.specs.Io.KnownBytes.{Appends}
+use Rattle.std.proofs.Common.{◌≡◌, ℕ, List, ◌++◌, ap, sym, ◌∙◌, inr, subst, append_assoc}
 use Rattle.cd_ports.specs.Writing.{SinkMeaning, AppendsPrefix}
 use Rattle.cd_top.specs.Reports.{TellsReport}
 use Rattle.cd_top.specs.Statuses.{IsStopped, WriteOutranks}
@@ -8,10 +7,6 @@ use Rattle.cd_top.specs.declared.status.Status.{Status}
 use Rattle.cd_top.specs.declared.status.Status.TheVariants as status
 use Rattle.cd_top.proofs.Mapping.{memory_stops, write_stops}
 use Rattle.cd_top.proofs.Unread.{prefix_none}
-
--- it is written
-pub told_whole : (a b : SinkMeaning) (s : Status) (text : List ℕ) → (IsStopped s → ⊥) → Appends a.contents b.contents text → TellsReport a b s s text
-told_whole a b s text going h = record { ends = inl refl; whole = λ same. h; front = λ halt. absurd (going halt) }
 
 -- a prefix of it is written
 pub told_front : (a b : SinkMeaning) (r s : Status) (text : List ℕ) → AppendsPrefix a.contents b.contents text → IsStopped r → TellsReport a b r s text

@@ -1,20 +1,37 @@
 -- What a run answers and reports, by how its command ended and what it counted.
-use Rattle.std.proofs.Common.{◌≡◌, ◌⊎◌, List, ℕ, sym, ◌∙◌, inl, inr, subst}
+use Rattle.std.proofs.Common.{◌≡◌, ◌⊎◌, List, ℕ, ◌++◌, length, Option, Some, None, ap, sym, ◌∙◌, inl, inr, subst, arith}
+use Rattle.std.specs.Io.KnownBytes.{Appends}
+use Rattle.std.proofs.lemmas.List.{take_all}
+use Rattle.cd_engine.specs.Compacting as compacting
 use Rattle.cd_engine.specs.Endings as endings
 use Rattle.cd_engine.specs.Endings.{IfStopped}
 use Rattle.cd_engine.specs.declared.ended.Ended.{Ended}
 use Rattle.cd_engine.specs.declared.ended.Ended.TheVariants as ended
 use Rattle.cd_ports.specs.Writing.{SinkMeaning, AppendsPrefix}
 use Rattle.cd_top.specs.Reports.{TellsReport, TellsEnd}
-use Rattle.cd_top.specs.Statuses.{status_of, IsStopped, EndsAs}
+use Rattle.cd_top.specs.Statuses.{status_of, IsStopped, EndsAs, Writes, WriteOutranks}
 use Rattle.cd_top.specs.declared.status.Status.{Status}
 use Rattle.cd_top.specs.declared.status.Status.TheVariants as status
-use Rattle.cd_top.proofs.Mapping.{end_is, has_end, not_stopped, no_usage, usage_goes, stopped_is, stopped_or_going, at_stop, while_going}
+use Rattle.cd_top.proofs.Mapping.{has_end, ends_only, ends_complete, stopped_is, stopped_or_going, at_stop, while_going, stopped_so}
 use Rattle.cd_top.proofs.Unread.{prefix_none}
 
 -- a command that is done is not stopped
 pub done_goes : (e : Ended) → e ≡ ended.Done → endings.IsStopped e → ⊥
 done_goes e is = let P : Ended → Type 0 = λ f. endings.IsStopped f → ⊥ in subst P (sym is) (λ halt. halt)
+
+-- what is written whole is written as a prefix
+whole_prefix : (o n : Option (List ℕ)) (bytes : List ℕ) → Appends o n bytes → AppendsPrefix o n bytes
+whole_prefix None n bytes h = tt
+whole_prefix (Some xs) None bytes h = absurd h
+whole_prefix (Some xs) (Some ys) bytes h = (length bytes, h ∙ ap (λ t. xs ++ t) (sym (take_all (length bytes) bytes (omega arith))))
+
+-- what is written where a run is not stopped yet it has written, whatever becomes of its report
+pub writes_so : (ko kn : SinkMeaning) (r : Status) (e : Ended) (bytes : List ℕ) → (endings.IsStopped e → ⊥) → EndsAs r (status_of e) →
+    compacting.Writes ko kn e bytes → Writes ko kn r bytes
+writes_so ko kn r e bytes going (inl is) writes = has_end (λ f. compacting.Writes ko kn f bytes) r e is writes
+writes_so ko kn r e bytes going (inr halt) writes =
+    has_end (λ f. compacting.Writes ko kn f bytes) r halt.end halt.is
+    (stopped_so halt.end _ _ halt.holds (whole_prefix ko.contents kn.contents bytes (while_going e _ _ going writes)))
 
 module _ {C : Type 0} (form : C → Status → List ℕ) where
   -- what is told of a command that ended so, as it was stopped or not
@@ -43,19 +60,25 @@ module _ {C : Type 0} (form : C → Status → List ℕ) where
     | inr halt ↦ inr (told_stops old new r e counts h halt)
   ]
 
-  -- a run that ends so and is not stopped is a command that ends so
-  pub told_end_is : (old new : SinkMeaning) (r : Status) (e f : Ended) (counts : C) → TellsEnd form old new r e counts → r ≡ status_of f → (endings.IsStopped f → ⊥) → e ≡ f
-  told_end_is old new r e f counts h is going = elim (told_ends old new r e counts h) [
-    | inl same ↦ end_is r e f same is
-    | inr halt ↦ absurd (not_stopped r f is going halt)
+  -- what a command writes that ended so, the run does, whatever became of the report
+  pub writes_told : (ko kn old new : SinkMeaning) (r : Status) (e : Ended) (counts : C) (bytes : List ℕ) → TellsEnd form old new r e counts →
+      compacting.Writes ko kn e bytes → Writes ko kn r bytes
+  writes_told ko kn old new r e counts bytes h writes = elim (told_by old new r e counts h) [
+    | inl stop ↦ has_end (λ f. compacting.Writes ko kn f bytes) r e stop.1 writes
+    | inr tells ↦ writes_so ko kn r e bytes tells.0 tells.1.ends writes
   ]
 
-  -- it is no refusal of the words
-  pub told_no_usage : (old new : SinkMeaning) (r : Status) (e : Ended) (counts : C) → TellsEnd form old new r e counts → r ≡ status.Usage → ⊥
-  told_no_usage old new r e counts h is = elim (told_ends old new r e counts h) [
-    | inl same ↦ no_usage e (sym same ∙ is)
-    | inr halt ↦ usage_goes r is halt
-  ]
+  -- a fault of the output outranks all but want of memory
+  pub outranks_told : (ko kn old new : SinkMeaning) (r : Status) (e : Ended) (counts : C) → TellsEnd form old new r e counts →
+      compacting.WriteOutranks ko kn e → WriteOutranks ko kn r
+  outranks_told ko kn old new r e counts h w = record {
+    failed = λ sound failed. told_stops old new r e counts h (w.failed sound failed);
+    refused = λ sound refused. told_stops old new r e counts h (w.refused sound refused);
+  }
+
+  -- a run that ends so and is not stopped is a command that ends so
+  pub told_end_is : (old new : SinkMeaning) (r : Status) (e f : Ended) (counts : C) → TellsEnd form old new r e counts → r ≡ status_of f → (endings.IsStopped f → ⊥) → e ≡ f
+  told_end_is old new r e f counts h is going = ends_only r e f (told_ends old new r e counts h) is going
 
   -- the report says what was counted in the bytes that are used
   pub reports_as : (old new : SinkMeaning) (r : Status) (e f : Ended) (found counts none : C) (P : Type 0) → (P → found ≡ counts) →
@@ -83,13 +106,7 @@ module _ {C : Type 0} (form : C → Status → List ℕ) where
       (r ≡ status.WriteFault → ⊥) → (e ≡ ended.Done) ⊎ (e ≡ ended.NoMemory) → (r ≡ status.Done) ⊎ (r ≡ status.NoMemory)
   completes old new r e counts h unfailed (inl is) =
       let P : Ended → Type 0 = λ x. EndsAs r (status_of x) in
-      elim (subst P is (told_ends old new r e counts h)) [
-        | inl done ↦ inl done
-        | inr halt ↦ elim (stopped_is r halt) [
-          | inl failed ↦ absurd (unfailed failed)
-          | inr memory ↦ inr memory
-        ]
-      ]
+      ends_complete r (subst P is (told_ends old new r e counts h)) unfailed
   completes old new r e counts h unfailed (inr is) =
       let P : Ended → Type 0 = λ x. EndsAs r (status_of x) in
       elim (subst P is (told_ends old new r e counts h)) [

@@ -12,7 +12,7 @@ use Rattle.cd_inspection.specs.Growing.{nothing_unrefused}
 use Rattle.cd_ports.specs.Reading.{SourceMeaning}
 use Rattle.cd_ports.specs.Writing.{SinkMeaning, AppendsPrefix}
 use Rattle.cd_words.specs.declared.command.Command.{Command}
-use Rattle.cd_words.specs.declared.command.Command.TheVariants.{Compact, Check}
+use Rattle.cd_words.specs.declared.command.Command.TheVariants.{Compact, Check, Inspect, Drill}
 use Rattle.cd_top.specs.Run.{StopsReading, refused_for}
 use Rattle.cd_top.specs.Statuses.{Writes}
 use Rattle.cd_top.specs.declared.status.Status.TheVariants as status
@@ -36,6 +36,8 @@ consumed_is_taken old new bytes taken told consumed =
 none_refused : (c : Command) → refused_for c [] ≡ None
 none_refused (Compact s) = ap (λ o. option_map judging_captures.ended_for o) captures.nothing_unrefused
 none_refused (Check max) = ap (λ o. option_map judging_files.ended_for o) nothing_unrefused
+none_refused (Inspect max) = ap (λ o. option_map judging_files.ended_for o) nothing_unrefused
+none_refused (Drill settings) = refl
 
 -- to take nothing is to stop in time
 pub none_stops : (c : Command) (src : SourceMeaning) → StopsReading c src src []

@@ -1,4 +1,5 @@
 pub mod Statuses
 pub mod Reports
+pub mod Drilling
 pub mod Refusing
 pub mod Run

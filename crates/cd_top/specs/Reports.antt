@@ -72,6 +72,14 @@ check_report counts s =
     count_line (codes "blocks") counts.blocks ++ count_line (codes "items") counts.items
     ++ count_line (codes "malformed") counts.malformed ++ status_line s
 
+-- the report of `inspect`
+abbrev pub inspect_report : ReadCounts → Status → List ℕ
+inspect_report counts s =
+    count_line (codes "blocks") counts.blocks ++ count_line (codes "items") counts.items
+    ++ count_line (codes "malformed") counts.malformed ++ count_line (codes "packets") counts.packets
+    ++ count_line (codes "bare") counts.bare ++ count_line (codes "not-udp") counts.not_udp
+    ++ count_line (codes "too-long") counts.too_long ++ status_line s
+
 -- the lines of all packets of a capture, and of those with an event
 unfoldable pub packet_lines : Counts → List ℕ
 packet_lines counts =
@@ -126,6 +134,14 @@ ReportsCheck old new result counts s = TellsReport old new result s (check_repor
 abbrev pub ReportsCompact : SinkMeaning → SinkMeaning → Status → Counts → Status → Type 0
 ReportsCompact old new result counts s = TellsReport old new result s (compact_report counts s)
 
+-- the run ends so, and the report of `inspect` says these counts and that
+abbrev pub ReportsInspect : SinkMeaning → SinkMeaning → Status → ReadCounts → Status → Type 0
+ReportsInspect old new result counts s = TellsReport old new result s (inspect_report counts s)
+
+-- the run ends so, and the report of `drill` says that alone
+abbrev pub ReportsDrill : SinkMeaning → SinkMeaning → Status → Type 0
+ReportsDrill old new result = TellsReport old new result status.Done (status_line status.Done)
+
 -- where a command was stopped the run ends so, and nothing is reported; else its counts and its end are, in this form
 abbrev pub TellsEnd : {C : Type 0} → (C → Status → List ℕ) → SinkMeaning → SinkMeaning → Status → Ended → C → Type 0
 TellsEnd form old new result e counts =
@@ -139,3 +155,7 @@ TellsCheck old new result e counts = TellsEnd check_report old new result e coun
 -- and of a compaction
 abbrev pub TellsCompact : SinkMeaning → SinkMeaning → Status → Ended → Counts → Type 0
 TellsCompact old new result e counts = TellsEnd compact_report old new result e counts
+
+-- and of an inspection
+abbrev pub TellsInspect : SinkMeaning → SinkMeaning → Status → Ended → ReadCounts → Type 0
+TellsInspect old new result e counts = TellsEnd inspect_report old new result e counts

@@ -1,5 +1,5 @@
 -- What a run does over the bytes that it took.
-use Rattle.std.specs.Prelude.{◌≡◌, ℕ, ◌<◌, ◌&&◌, nat_le, Bool, List, length, take, Option, None, option_map, if◌then◌else◌}
+use Rattle.std.specs.Prelude.{◌≡◌, ℕ, ◌<◌, ◌&&◌, nat_le, Bool, List, length, take, Option, None, option_map, if◌then◌else◌, ⊤}
 use Rattle.cd_drive.specs.Driving.{IsTaken}
 use Rattle.cd_engine.specs.Checking.{judging_files}
 use Rattle.cd_engine.specs.Endings.{Judging, StopsInTime, ended_in, judging_captures}
@@ -9,31 +9,52 @@ use Rattle.cd_ports.specs.Counter.{Rose}
 use Rattle.cd_ports.specs.Reading.{SourceMeaning}
 use Rattle.cd_words.specs.Commands.{SaysCommand}
 use Rattle.cd_words.specs.declared.command.Command.{Command}
-use Rattle.cd_words.specs.declared.command.Command.TheVariants.{Compact, Check}
+use Rattle.cd_words.specs.declared.command.Command.TheVariants.{Compact, Check, Inspect, Drill}
+
+-- a command reads the source: each does but `drill`, which makes its own input
+abbrev pub ReadsInput : Command → Type 0
+ReadsInput (Compact settings) = ⊤
+ReadsInput (Check max_input) = ⊤
+ReadsInput (Inspect max_input) = ⊤
+ReadsInput (Drill settings) = ⊥
 
 -- how many bytes of the input a command uses at most
 abbrev pub max_input_of : Command → ℕ
 max_input_of (Compact settings) = settings.max_input
 max_input_of (Check max_input) = max_input
+max_input_of (Inspect max_input) = max_input
+max_input_of (Drill settings) = 0
+
+-- what a judging refuses bytes for, whatever follows them, as how it ends
+abbrev pub refusal_by : {R : Type 0} → Judging R → List ℕ → Option Ended
+refusal_by judging bytes = option_map judging.ended_for (judging.refused bytes)
+
+-- what it refuses them for where nothing follows them
+abbrev pub refusal_at_end_by : {R : Type 0} → Judging R → List ℕ → Option Ended
+refusal_at_end_by judging bytes = option_map judging.ended_for (judging.refused_at_end bytes)
 
 -- what bytes are refused for by a command, whatever follows them, as how it ends: as a capture, or as a C-DNS file
 abbrev pub refused_for : Command → List ℕ → Option Ended
-refused_for (Compact settings) bytes = option_map judging_captures.ended_for (judging_captures.refused bytes)
-refused_for (Check max_input) bytes = option_map judging_files.ended_for (judging_files.refused bytes)
+refused_for (Compact settings) bytes = refusal_by judging_captures bytes
+refused_for (Check max_input) bytes = refusal_by judging_files bytes
+refused_for (Inspect max_input) bytes = refusal_by judging_files bytes
+refused_for (Drill settings) bytes = None
 
 -- what they are refused for where nothing follows them
 abbrev pub refused_at_end_for : Command → List ℕ → Option Ended
-refused_at_end_for (Compact settings) bytes =
-    option_map judging_captures.ended_for (judging_captures.refused_at_end bytes)
-refused_at_end_for (Check max_input) bytes = option_map judging_files.ended_for (judging_files.refused_at_end bytes)
+refused_at_end_for (Compact settings) bytes = refusal_at_end_by judging_captures bytes
+refused_at_end_for (Check max_input) bytes = refusal_at_end_by judging_files bytes
+refused_at_end_for (Inspect max_input) bytes = refusal_at_end_by judging_files bytes
+refused_at_end_for (Drill settings) bytes = None
 
 -- how a command judges bytes
 abbrev pub judging_of : Command → Judging Ended
 judging_of c = record { refused = refused_for c; refused_at_end = refused_at_end_for c; ended_for = λ e. e }
 
--- The words say this command, and the call took these bytes from a source that tells what is left.
+-- The words say this command, which reads, and the call took these bytes from a source that tells what is left.
 pub record RunsOver (words : List (List ℕ)) (src_old src_new : SourceMeaning) (c : Command) (taken : List ℕ) : Type 0 where
   pub says : SaysCommand words c
+  pub reads : ReadsInput c
   pub took : IsTaken src_old src_new taken
 
 -- the bytes that are used of those taken: `max_input` at most

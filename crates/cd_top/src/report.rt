@@ -6,8 +6,8 @@ ghost use Rattle.cd_engine.specs.Endings.{IsStopped as has_stopped};
 ghost use Rattle.cd_engine.specs.Filing.{one_if};
 ghost use Rattle.cd_ports.specs.Counter.{Rose};
 ghost use Rattle.cd_top.specs.Refusing.{Refuses};
-ghost use Rattle.cd_top.specs.Reports.{count_line, status_line, check_report, compact_report, TellsReport, TellsCheck};
-ghost use Rattle.cd_top.specs.Reports.{TellsCompact};
+ghost use Rattle.cd_top.specs.Reports.{count_line, status_line, check_report, compact_report, inspect_report};
+ghost use Rattle.cd_top.specs.Reports.{TellsReport, TellsCheck, TellsCompact, TellsInspect, ReportsDrill};
 ghost use Rattle.cd_top.specs.Reports.{packet_lines, layer_skip_lines, other_skip_lines, file_lines};
 ghost use Rattle.cd_top.specs.Statuses.{status_of, IsStopped, WriteOutranks};
 
@@ -18,7 +18,7 @@ use std::alloc::{AllocError, Global};
 
 // Appends the line of a count.
 #[tactic(auto, unfolding(crate::specs::Reports::count_line))]
-fn put_count(text: &mut String, name: &str, count: u64) -> Result<(), AllocError>
+pub(crate) fn put_count(text: &mut String, name: &str, count: u64) -> Result<(), AllocError>
     ensures { OnOk result (text.new.bytes.items ≡ text.old.bytes.items ++ count_line name.now count) }
 {
     write!(text, "{name} {count}\n")
@@ -40,6 +40,31 @@ fn check_report(alloc: Global, counts: &ReadCounts, status: Status) -> Result<St
     put_count(&mut text, "items", counts.items)?;
     put_count(&mut text, "malformed", counts.malformed)?;
     put_status(&mut text, status)?;
+    Ok(text)
+}
+
+// The report of `inspect`: what is counted in the file and rebuilt of it, and how the run ended.
+fn inspect_report(alloc: Global, counts: &ReadCounts, status: Status) -> Result<String, AllocError>
+    ensures { IfOk result (λ text. text.bytes.items ≡ inspect_report counts.now status) }
+{
+    let mut lines = String::new(alloc);
+    put_count(&mut lines, "blocks", counts.blocks)?;
+    put_count(&mut lines, "items", counts.items)?;
+    put_count(&mut lines, "malformed", counts.malformed)?;
+    put_count(&mut lines, "packets", counts.packets)?;
+    put_count(&mut lines, "bare", counts.bare)?;
+    put_count(&mut lines, "not-udp", counts.not_udp)?;
+    put_count(&mut lines, "too-long", counts.too_long)?;
+    put_status(&mut lines, status)?;
+    Ok(lines)
+}
+
+// The report of `drill`.
+fn drill_report(alloc: Global) -> Result<String, AllocError>
+    ensures { IfOk result (λ text. text.bytes.items ≡ status_line Status.Done) }
+{
+    let mut text = String::new(alloc);
+    put_status(&mut text, Status::Done)?;
     Ok(text)
 }
 
@@ -207,6 +232,41 @@ pub(crate) fn tell_check<E: Sink>(
     }
     match check_report(alloc, counts, status) {
         Ok(text) => tell(report, text.as_str(), status),
+        Err(AllocError) => Status::NoMemory,
+    }
+}
+
+/// Reports on an inspection that ended so, with what it counted. Where a write failed or it found no memory nothing is
+/// reported.
+pub(crate) fn tell_inspect<E: Sink>(
+    alloc: Global,
+    ended: Ended,
+    counts: &ReadCounts,
+    report: &mut E,
+) -> Status
+    ensures tells { TellsInspect (E.means report.old) (E.means report.new) result ended counts.now }
+    ensures write_fault { result ≡ Status.WriteFault →
+        (ended ≡ Ended.WriteFault) ⊎ Rose (E.means report.old).faults (E.means report.new).faults }
+    ensures outranks { WriteOutranks (E.means report.old) (E.means report.new) result }
+{
+    let status = status_of(ended);
+    if has_stopped(ended) {
+        return status;
+    }
+    match inspect_report(alloc, counts, status) {
+        Ok(text) => tell(report, text.as_str(), status),
+        Err(AllocError) => Status::NoMemory,
+    }
+}
+
+/// Reports on a drill whose summary is written.
+pub(crate) fn tell_drill<E: Sink>(alloc: Global, report: &mut E) -> Status
+    ensures tells { ReportsDrill (E.means report.old) (E.means report.new) result }
+    ensures write_fault { result ≡ Status.WriteFault → Rose (E.means report.old).faults (E.means report.new).faults }
+    ensures outranks { WriteOutranks (E.means report.old) (E.means report.new) result }
+{
+    match drill_report(alloc) {
+        Ok(text) => tell(report, text.as_str(), Status::Done),
         Err(AllocError) => Status::NoMemory,
     }
 }
